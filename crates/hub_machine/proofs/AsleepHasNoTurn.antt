@@ -10,10 +10,11 @@ use Rattle.hd_server.specs.Laws.{TurnsAreTested}
 use Rattle.hd_server.specs.Machine.{MachineEvent, Rounds, has_gone, is_there, last_turn, may_turn, moves, settings_of, turn_with}
 use Rattle.hp_peer.specs.declared.peer.Peer.{Peer}
 use Rattle.hub_machine.specs.declared.machine.Machine.{Machine}
+use Rattle.hub_machine.specs.declared.idle_set.IdleClock.{IdleClock}
 use Rattle.hub_machine.specs.declared.idle_set.IdlePeer.{IdlePeer}
 use Rattle.hub_machine.specs.Machines.{IsKeptAs, StandsMachine, is_awake_at, idle_peer_at, peer_at, settings_there}
 use Rattle.hub_machine.specs.Rounds.{has_turn}
-use Rattle.hub_machine.specs.IdleSet.{is_awake_in}
+use Rattle.hub_machine.specs.IdleSet.{after_round, is_awake_in}
 use Rattle.hub_machine.proofs.TurnFirst.{here_of, none_gone}
 use Rattle.hub_machine.proofs.Unmoved.{HasBegunAs, kept_at}
 
@@ -41,7 +42,7 @@ undue_turnless tested t h undue = by (may_turn t h) refl (next_job t h) refl
 
 module _ {H Job : Type 0} (hub : Hub Job) (tested : TurnsAreTested) where
   -- one that isn't awake has none
-  kept_turnless : (clock : ℕ) (c : ℕ) (v : List MachineEvent) (idle_peer : Option IdlePeer) (o : Option Settings) (p : Option (Peer H Job)) → settings_there c v ≡ o
+  kept_turnless : (clock : IdleClock) (c : ℕ) (v : List MachineEvent) (idle_peer : Option IdlePeer) (o : Option Settings) (p : Option (Peer H Job)) → settings_there c v ≡ o
       → IsKeptAs {H = H} hub clock idle_peer o (moves c v) p → (is_some p && not (is_some idle_peer)) ≡ false → has_turn c v ≡ false
   kept_turnless clock c v idle_peer None p e kept unawake = none_gone c v e
   kept_turnless clock c v None (Some t) None e kept unawake = absurd kept
@@ -67,7 +68,7 @@ module _ {H Job : Type 0} (hub : Hub Job) (tested : TurnsAreTested) where
   pub unawake_idle : (m : Machine H Job) (w : List MachineEvent) (now c : ℕ) → StandsMachine {H = H} hub m w → is_awake_at m c ≡ false
       → has_turn c (Rounds now ∷ w) ≡ false
   unawake_idle m w now c s unawake =
-      kept_turnless m.idle_set.clock c (Rounds now ∷ w) (idle_peer_at m c) (settings_there c w) (peer_at m c) refl
+      kept_turnless (after_round m.idle_set.clock) c (Rounds now ∷ w) (idle_peer_at m c) (settings_there c w) (peer_at m c) refl
       (kept_at {H = H} {Job = Job} hub m.idle_set.clock (idle_peer_at m c) (has_gone c w) (settings_of c w) (peer_at m c) (peer_at m c) (moves c w) (s.at c)
       (begun_unawake (idle_peer_at m c) (peer_at m c) unawake))
       unawake

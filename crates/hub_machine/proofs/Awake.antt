@@ -15,6 +15,7 @@ use Rattle.hd_calls.specs.Hubs.{Hub}
 use Rattle.hd_calls.specs.Peers.{PeerEvent, Settings}
 use Rattle.hp_peer.specs.declared.peer.Peer.{Peer}
 use Rattle.hub_machine.specs.declared.machine.Machine.{Machine}
+use Rattle.hub_machine.specs.declared.idle_set.IdleClock.{IdleClock}
 use Rattle.hub_machine.specs.declared.idle_set.IdlePeer.{IdlePeer}
 use Rattle.hub_machine.specs.declared.idle_set.IdleSet.{IdleSet}
 use Rattle.hub_machine.specs.Machines.{IsIndexed, IsKeptAs, is_awake_at, idle_peer_at, peer_at}
@@ -77,7 +78,7 @@ index_new {H} {Job} old new c p index changes puts room =
 
 -- ---- how each is kept
 
-pub kept_by : {H Job : Type 0} (hub : Hub Job) (a b : ℕ) (n o : Option IdlePeer) (p q : Option (Peer H Job)) (t : Option Settings) (h : List PeerEvent)
+pub kept_by : {H Job : Type 0} (hub : Hub Job) (a b : IdleClock) (n o : Option IdlePeer) (p q : Option (Peer H Job)) (t : Option Settings) (h : List PeerEvent)
     → b ≡ a → o ≡ n → q ≡ p → IsKeptAs {H = H} hub a n t h p → IsKeptAs {H = H} hub b o t h q
 kept_by {H} hub a b n o p q t h e f g k =
     subst (λ x. IsKeptAs {H = H} hub x o t h q) (sym e)
@@ -198,6 +199,8 @@ module _ (old taken new : IdleSet) (count now c : ℕ) (adds : AddsOne old taken
     rising = subst (λ ns. IsRising ns) (sym adds.same.0) kept.rising;
     set = λ k moment e. ap (λ s. contains in_order s (record { moment = moment; conn = k })) adds.same.2
         ∙ kept.set k moment (sym (ap (λ ns. deadline_in (get nat_cmp ns k)) adds.same.1) ∙ e);
+    only = λ k moment e. ap (λ ns. deadline_in (get nat_cmp ns k)) adds.same.1
+        ∙ kept.only k moment (sym (ap (λ s. contains in_order s (record { moment = moment; conn = k })) adds.same.2) ∙ e);
   }
 
   added : Changes taken new c None true

@@ -18,9 +18,10 @@ use Rattle.hp_peer.specs.declared.peer.Peer.{Peer}
 use Rattle.hp_peer.specs.Stands.{Stands}
 use Rattle.hg_groups.specs.declared.registry.Registry.{Registry}
 use Rattle.hub_machine.specs.declared.machine.Machine.{Machine}
+use Rattle.hub_machine.specs.declared.idle_set.IdleClock.{IdleClock}
 use Rattle.hub_machine.specs.declared.idle_set.IdlePeer.{IdlePeer}
 use Rattle.hub_machine.specs.declared.idle_set.IdleSet.{IdleSet}
-use Rattle.hub_machine.specs.Machines.{IsKeptAs, IsPeerOf, IsStranger, StandsMachine, idle_peer_at, peer_at, settings_there}
+use Rattle.hub_machine.specs.Machines.{IsKeptAs, IsPeerOf, IsStranger, SaysAsSent, StandsMachine, idle_peer_at, peer_at, settings_there}
 use Rattle.hub_machine.specs.IdleSet.{Changes}
 use Rattle.hub_machine.proofs.Awake.{AddsOne, each_kept, has_room, index_new, one_more, room_for_all}
 use Rattle.hub_machine.proofs.Open.{OthersOpen, filter_goes, filter_stays, lists_agree, of_open_unpaired}
@@ -92,7 +93,7 @@ no_user c (Carries k j d fates asked ∷ w) e = no_user c w e
 no_user c (Goes k ∷ w) e = no_user c w e
 
 -- one that isn't there doesn't sleep
-no_idle_peer : {H Job : Type 0} (hub : Hub Job) (clock : ℕ) (idle_peer : Option IdlePeer) (t : Option Settings) (h : List PeerEvent) (p : Option (Peer H Job)) → t ≡ None
+no_idle_peer : {H Job : Type 0} (hub : Hub Job) (clock : IdleClock) (idle_peer : Option IdlePeer) (t : Option Settings) (h : List PeerEvent) (p : Option (Peer H Job)) → t ≡ None
     → IsKeptAs {H = H} hub clock idle_peer t h p → idle_peer ≡ None
 no_idle_peer hub clock None t h p e kept = refl
 no_idle_peer hub clock (Some idle_peer) None h p e kept = absurd kept
@@ -149,6 +150,14 @@ module _ {H Job : Type 0} (hub : Hub Job) (old new : Machine H Job) (w : List Ma
       (subst (λ h. IsPeer hub o h) (sym stranger.unmoved) (subst (λ x. IsPeer hub x []) same (peer_is {H = H} hub t p [] stands)))
   peers_each k o e false f = s.peers k o (sym (others k f) ∙ e)
 
+  said_each : (k : ℕ) (o : Settings) → settings_of k after ≡ Some o → (b : Bool) → (c == k) ≡ b → SaysAsSent o (moves k after)
+  said_each k o e true f =
+      let one : ◌≡◌ {A = Option Settings} (Some t) (Some o) = sym own ∙ ap (λ n. settings_of n after) (eqb-true c k f) ∙ e in
+      let same : t ≡ o = cc in
+      subst (λ n. SaysAsSent o (moves n w)) (eqb-true c k f)
+      (subst (λ h. SaysAsSent o h) (sym stranger.unmoved) (subst (λ x. SaysAsSent x []) same stands.end.said))
+  said_each k o e false f = s.said k o (sym (others k f) ∙ e)
+
   strangers_each : (k : ℕ) → settings_of k after ≡ None → IsStranger k after
   strangers_each k e =
       let was = s.strangers k (unconnected k c t (settings_of k w) e).1 in
@@ -177,6 +186,7 @@ module _ {H Job : Type 0} (hub : Hub Job) (old new : Machine H Job) (w : List Ma
         (room_for_all old.idle_set taken new.idle_set (btree_map_len old.peers) (btree_map_len new.peers) c adds s.index.kept few unnapped);
     registry = lists;
     peers = λ k o e. peers_each k o e (c == k) refl;
+    said = λ k o e. said_each k o e (c == k) refl;
     strangers = strangers_each;
     from_one = others 0 (go (c == 0) refl) ∙ s.from_one;
   }

@@ -76,6 +76,7 @@ module _ {H Job : Type 0} (hub : Hub Job) (old new : Machine H Job) (w : List Ma
     index = index_gone {H = H} {Job = Job} old new c s.index changed updates fewer;
     registry = subst (λ l. StandsRegistry new.registry l) (sym (registry_closed c w after refl refl shut others_open)) (leaves (registry w) s.registry);
     peers = s.peers;
+    said = s.said;
     strangers = λ k e. strangers_each k e (c == k) refl;
     from_one = s.from_one;
   }

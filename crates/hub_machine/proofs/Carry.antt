@@ -26,7 +26,7 @@ use Rattle.hd_server.specs.Machine.{with_fate}
 use Rattle.hg_groups.specs.declared.registry.Registry.{Registry}
 use Rattle.hg_groups.specs.Standing.{StandsRegistry}
 use Rattle.hub_machine.specs.declared.machine.Machine.{Machine}
-use Rattle.hub_machine.specs.Machines.{IsKeptAs, IsStranger, StandsMachine, idle_peer_at, peer_at, settings_there}
+use Rattle.hub_machine.specs.Machines.{IsKeptAs, IsStranger, SaysAsSent, StandsMachine, idle_peer_at, peer_at, settings_there}
 use Rattle.hub_machine.specs.MachineView.{MachineView, AreSame, AreUp, StandsFor, machine_view, fates_in, is_up_in, lists_after, moved, told, with_lists, without_slow}
 use Rattle.hub_machine.specs.KeeperState.{KeeperState, HasAnsweredDuring, asks_in, keeper_state, spoken_at}
 use Rattle.hub_machine.specs.Rounds.{AtDeed, IsCarried}
@@ -34,7 +34,7 @@ use Rattle.hub_machine.specs.Carrying.{AnswersAt}
 use Rattle.hub_machine.specs.Spreads.{codecs_among, is_listed}
 use Rattle.hub_machine.proofs.Open.{filter_goes, filter_stays}
 use Rattle.hub_machine.proofs.Doing.{index_stays}
-use Rattle.hub_machine.proofs.Lags.{kept_is_peer}
+use Rattle.hub_machine.proofs.Lags.{kept_is_peer, kept_says}
 use Rattle.hub_machine.proofs.Same.{same_stands}
 use Rattle.hub_machine.proofs.CarryLists.{among, among_agree, eqb_swap, fate_found, fates_by, is_slow, kept, kept_member, kept_without, lists_of, lists_same, may_kept}
 use Rattle.hub_machine.proofs.CarryLists.{members_pass, slow_among, slow_found, slow_leave}
@@ -257,6 +257,7 @@ stands_carried {H} {Job} hub new old r c j d fates asked s at f stands = record 
   index = stands.index;
   registry = stands.registry;
   peers = λ k t e. each k t e (has_gone k r) refl;
+  said = λ k t e. says k t e (has_gone k r) refl;
   strangers = λ k e. still_strange r c j k d fates asked at e (s.strangers k e);
   from_one = s.from_one;
 }
@@ -264,6 +265,12 @@ stands_carried {H} {Job} hub new old r c j d fates asked s at f stands = record 
     each : (k : ℕ) (t : Settings) → settings_of k r ≡ Some t → (b : Bool) → has_gone k r ≡ b → IsPeer hub t (moves k (Carries c j d fates asked ∷ r))
     each k t e true g = subst (λ h. IsPeer hub t h) (sym (gone_unmoved r c j k d fates asked at f g)) (s.peers k t e)
     each k t e false g = kept_is_peer {H = H} {Job = Job} hub new.idle_set.clock (idle_peer_at new k) t (moves k (Carries c j d fates asked ∷ r)) (peer_at new k)
+        (subst (λ o. IsKeptAs {H = H} hub new.idle_set.clock (idle_peer_at new k) o (moves k (Carries c j d fates asked ∷ r)) (peer_at new k))
+        (cond-false (has_gone k r) None (settings_of k r) g ∙ e) (stands.at k))
+
+    says : (k : ℕ) (t : Settings) → settings_of k r ≡ Some t → (b : Bool) → has_gone k r ≡ b → SaysAsSent t (moves k (Carries c j d fates asked ∷ r))
+    says k t e true g = subst (λ h. SaysAsSent t h) (sym (gone_unmoved r c j k d fates asked at f g)) (s.said k t e)
+    says k t e false g = kept_says {H = H} {Job = Job} hub new.idle_set.clock (idle_peer_at new k) t (moves k (Carries c j d fates asked ∷ r)) (peer_at new k)
         (subst (λ o. IsKeptAs {H = H} hub new.idle_set.clock (idle_peer_at new k) o (moves k (Carries c j d fates asked ∷ r)) (peer_at new k))
         (cond-false (has_gone k r) None (settings_of k r) g ∙ e) (stands.at k))
 

@@ -9,6 +9,7 @@ use Rattle.hp_peer.specs.declared.peer.Peer.{Peer}
 use Rattle.hp_peer.specs.Stands.{OfEach, Stands}
 use Rattle.hp_peer.specs.Turning.{HasAnswered, IsUnanswerable}
 use Rattle.hub_machine.specs.declared.machine.Machine.{Machine}
+use Rattle.hub_machine.specs.declared.idle_set.IdleClock.{IdleClock}
 use Rattle.hub_machine.specs.declared.idle_set.IdlePeer.{IdlePeer}
 use Rattle.hub_machine.specs.MachineView.{MachineView, StandsFor, moved}
 use Rattle.hub_machine.specs.Carrying.{AnswersAt}
@@ -45,7 +46,7 @@ answer_stands {H} {Job} hub old new c j i p q a s awake keeps was puts kept may 
     (subst (λ r. StandsRegistry r a.lists) (sym kept) s.registry)
 
 -- where there is no peer nothing is remembered of a connection's moves
-unremembered : {H Job : Type 0} (hub : Hub Job) (clock : ℕ) (idle_peer : Option IdlePeer) (o : Option Settings) (g h : List PeerEvent) (p : Option (Peer H Job)) → None ≡ p
+unremembered : {H Job : Type 0} (hub : Hub Job) (clock : IdleClock) (idle_peer : Option IdlePeer) (o : Option Settings) (g h : List PeerEvent) (p : Option (Peer H Job)) → None ≡ p
     → IsKeptAs {H = H} hub clock idle_peer o g p → IsKeptAs {H = H} hub clock idle_peer o h p
 unremembered hub clock None None g h None e x = x
 unremembered hub clock None (Some t) g h None e x = absurd x

@@ -90,12 +90,17 @@ leaves c xs ys removed k = go (c == k) refl
     go true e = removed k ∙ ap (λ b. is_in k xs && not b) (eq-eqb k c (sym (eqb-true c k e))) ∙ none (is_in k xs)
     go false e = removed k ∙ ap (λ b. is_in k xs && not b) (doing.apart c k e) ∙ all (is_in k xs)
 
--- where the nap of one changes, and its alarm is set, those of others stay set
+-- where the nap of one changes, and of its alarms just that of the nap is set, those of others are set as they were
 pub kept_by : (old new : IdleSet) (c : ℕ) (idle_peer : Option IdlePeer) → IsKept old → IsRising new.awake.numbers.items
     → ((k : ℕ) → idle_peer_of new k ≡ (if c == k then idle_peer else idle_peer_of old k))
     → ((moment : ℕ) → deadline_in idle_peer ≡ Some moment → is_set_in new moment c ≡ true)
+    → ((moment : ℕ) → is_set_in new moment c ≡ true → deadline_in idle_peer ≡ Some moment)
     → ((k moment : ℕ) → (c == k) ≡ false → is_set_in new moment k ≡ is_set_in old moment k) → IsKept new
-kept_by old new c idle_peer kept rising idle_peers own others = record { rising = rising; set = λ k moment e. go k moment (c == k) refl e }
+kept_by old new c idle_peer kept rising idle_peers own no_more others = record {
+  rising = rising;
+  set = λ k moment e. go k moment (c == k) refl e;
+  only = λ k moment e. back k moment (c == k) refl e;
+}
   where
     go : (k moment : ℕ) (b : Bool) → (c == k) ≡ b → deadline_in (idle_peer_of new k) ≡ Some moment → is_set_in new moment k ≡ true
     go k moment true e f =
@@ -104,10 +109,31 @@ kept_by old new c idle_peer kept rising idle_peers own others = record { rising 
     go k moment false e f =
         others k moment e ∙ kept.set k moment (sym (ap deadline_in (idle_peers k ∙ cond-false (c == k) idle_peer (idle_peer_of old k) e)) ∙ f)
 
+    back : (k moment : ℕ) (b : Bool) → (c == k) ≡ b → is_set_in new moment k ≡ true → deadline_in (idle_peer_of new k) ≡ Some moment
+    back k moment true e f =
+        ap deadline_in (idle_peers k ∙ cond-true (c == k) idle_peer (idle_peer_of old k) e)
+        ∙ no_more moment (subst (λ j. is_set_in new moment j ≡ true) (sym (eqb-true c k e)) f)
+    back k moment false e f =
+        ap deadline_in (idle_peers k ∙ cond-false (c == k) idle_peer (idle_peer_of old k) e) ∙ kept.only k moment (sym (others k moment e) ∙ f)
+
+-- no alarm of one that is awake is set
+pub unset_awake : (old : IdleSet) (c : ℕ) → IsKept old → idle_peer_of old c ≡ None → (moment : ℕ) → is_set_in old moment c ≡ true → ⊥
+unset_awake old c kept awake moment e = let z : ◌≡◌ {A = Option ℕ} None (Some moment) = sym (ap deadline_in awake) ∙ kept.only c moment e in cc
+
+-- one without a nap has no alarm, where none was set
+pub none_set : (s : IdleSet) (c : ℕ) → ((moment : ℕ) → is_set_in s moment c ≡ false) → (moment : ℕ) → is_set_in s moment c ≡ true
+    → deadline_in None ≡ Some moment
+none_set s c none moment e = absurd (let z : false ≡ true = sym (none moment) ∙ e in cc)
+
 -- the alarms of a connection that falls asleep, once its own is set, if it has one
 abbrev pub SetsDeadline : Option ℕ → ℕ → BTreeSet Deadline → BTreeSet Deadline → Type 0
 SetsDeadline None c old new = new ≡ old
 SetsDeadline (Some moment) c old new = set.Updates in_order old new (at moment c) true
+
+-- and of one that wakes, once its own is removed
+abbrev pub UnsetsDeadline : Option ℕ → ℕ → BTreeSet Deadline → BTreeSet Deadline → Type 0
+UnsetsDeadline None c old new = new ≡ old
+UnsetsDeadline (Some moment) c old new = set.Updates in_order old new (at moment c) false
 
 own_set : (deadline : Option ℕ) (c : ℕ) (old new : BTreeSet Deadline) → SetsDeadline deadline c old new → (moment : ℕ) → deadline ≡ Some moment
     → set.contains in_order new (at moment c) ≡ true
@@ -121,6 +147,34 @@ others_set : (deadline : Option ℕ) (c : ℕ) (old new : BTreeSet Deadline) →
 others_set None c old new sets k moment e = ap (λ s. set.contains in_order s (at moment k)) sets
 others_set (Some m) c old new sets k moment e = sets.2 (at moment k) (apart (at m c) (at moment k) e)
 
+own_only : (deadline : Option ℕ) (c : ℕ) (old new : BTreeSet Deadline) → SetsDeadline deadline c old new
+    → ((moment : ℕ) → set.contains in_order old (at moment c) ≡ true → ⊥) → (moment : ℕ) → set.contains in_order new (at moment c) ≡ true
+    → deadline ≡ Some moment
+own_only None c old new sets none moment e = absurd (none moment (sym (ap (λ s. set.contains in_order s (at moment c)) sets) ∙ e))
+own_only (Some m) c old new sets none moment e = go (is_at (in_order (at m c)) (at moment c)) refl
+  where
+    go : (b : Bool) → is_at (in_order (at m c)) (at moment c) ≡ b → Some m ≡ Some moment
+    go true f = ap (λ n. Some n) (same (at m c) (at moment c) f).0
+    go false f = absurd (none moment (sym (sets.2 (at moment c) f) ∙ e))
+
+-- an alarm that was removed is set no more, and no other was
+pub own_unset : (deadline : Option ℕ) (c : ℕ) (old new : BTreeSet Deadline) → UnsetsDeadline deadline c old new → (moment : ℕ)
+    → (set.contains in_order old (at moment c) ≡ true → deadline ≡ Some moment) → set.contains in_order new (at moment c) ≡ false
+own_unset deadline c old new unsets moment only = by deadline unsets only (set.contains in_order old (at moment c)) refl
+  where
+    by : (deadline : Option ℕ) → UnsetsDeadline deadline c old new → (set.contains in_order old (at moment c) ≡ true → deadline ≡ Some moment)
+        → (b : Bool) → set.contains in_order old (at moment c) ≡ b → set.contains in_order new (at moment c) ≡ false
+    by None unsets only true e = absurd (let z : ◌≡◌ {A = Option ℕ} None (Some moment) = only e in cc)
+    by None unsets only false e = ap (λ s. set.contains in_order s (at moment c)) unsets ∙ e
+    by (Some m) unsets only true e =
+        let is : m ≡ moment = (let z : Some m ≡ Some moment = only e in cc) in
+        subst (λ n. set.contains in_order new (at n c) ≡ false) is unsets.1
+    by (Some m) unsets only false e = go (is_at (in_order (at m c)) (at moment c)) refl
+      where
+        go : (b : Bool) → is_at (in_order (at m c)) (at moment c) ≡ b → set.contains in_order new (at moment c) ≡ false
+        go true f = subst (λ n. set.contains in_order new (at n c) ≡ false) (same (at m c) (at moment c) f).0 unsets.1
+        go false f = unsets.2 (at moment c) f ∙ e
+
 -- its alarm was set, and now it has its nap, and is awake no more
 pub record Naps (mid new : IdleSet) (c : ℕ) (idle_peer : IdlePeer) : Type 0 where
   pub idle_peers : tree.Updates nat_cmp mid.idle_peers new.idle_peers c (Some idle_peer)
@@ -131,9 +185,11 @@ pub record Naps (mid new : IdleSet) (c : ℕ) (idle_peer : IdlePeer) : Type 0 wh
   pub clock : new.clock ≡ mid.clock
 
 pub falls_asleep : (old mid new : IdleSet) (c : ℕ) (idle_peer : IdlePeer) (deadlines : BTreeSet Deadline) → mid ≡ record old { deadlines = deadlines }
-    → SetsDeadline idle_peer.deadline c old.deadlines deadlines → Naps mid new c idle_peer → IsKept old → Changes old new c (Some idle_peer) false
-falls_asleep old mid new c idle_peer deadlines is sets slept kept = record {
+    → SetsDeadline idle_peer.deadline c old.deadlines deadlines → Naps mid new c idle_peer → IsKept old
+    → idle_peer_of old c ≡ None → Changes old new c (Some idle_peer) false
+falls_asleep old mid new c idle_peer deadlines is sets slept kept awake = record {
   kept = kept_by old new c (Some idle_peer) kept (now.rising kept.rising) idle_peers (own_set idle_peer.deadline c old.deadlines new.deadlines set_now)
+      (own_only idle_peer.deadline c old.deadlines new.deadlines set_now (unset_awake old c kept awake))
       (others_set idle_peer.deadline c old.deadlines new.deadlines set_now);
   idle_peers = idle_peers;
   awake = leaves c old.awake.numbers.items new.awake.numbers.items (now.removed kept.rising);

@@ -25,6 +25,7 @@ use Rattle.hp_peer.specs.declared.peer.Peer.{Peer}
 use Rattle.hp_peer.specs.Calling.{HasNotified, IsNotice, IsUnnotified, heard}
 use Rattle.hp_peer.specs.Stands.{Stands, Stays}
 use Rattle.hub_machine.specs.declared.machine.Machine.{Machine}
+use Rattle.hub_machine.specs.declared.idle_set.IdleClock.{IdleClock}
 use Rattle.hub_machine.specs.declared.idle_set.IdlePeer.{IdlePeer}
 use Rattle.hub_machine.specs.MachineView.{MachineView, StandsFor, is_up_in, moved, with_lists}
 use Rattle.hub_machine.specs.Calls.{ClosesOut}
@@ -333,7 +334,7 @@ end_codec (Some x) side codec c k a e f =
     ap Some f ∙ ap (λ (b : Bool). if b || is_client c.side then Some (codec_of c k) else None) (sym a.0)
 
 -- a peer is spoken to as the moves of its connection tell, whether it sleeps or not
-pub kept_codec : {H Job : Type 0} (hub : Hub Job) (clock : ℕ) (idle_peer : Option IdlePeer) (o : Option Settings) (h : List PeerEvent) (p : Option (Peer H Job))
+pub kept_codec : {H Job : Type 0} (hub : Hub Job) (clock : IdleClock) (idle_peer : Option IdlePeer) (o : Option Settings) (h : List PeerEvent) (p : Option (Peer H Job))
     → IsKeptAs {H = H} hub clock idle_peer o h p → codec_of_peer {H = H} p ≡ spoken_to o h
 kept_codec {H} {Job} hub clock idle_peer o h p =
     kept_either {H = H} {Job = Job} hub clock (λ o p. codec_of_peer {H = H} p ≡ spoken_to o h) idle_peer o h p refl (λ t q x.

@@ -17,8 +17,9 @@ use Rattle.hd_server.specs.Machine.{MachineEvent, has_gone, is_open, is_open_at,
 use Rattle.hp_peer.specs.declared.peer.Peer.{Peer}
 use Rattle.hp_peer.specs.Stands.{Stands}
 use Rattle.hub_machine.specs.declared.machine.Machine.{Machine}
+use Rattle.hub_machine.specs.declared.idle_set.IdleClock.{IdleClock}
 use Rattle.hub_machine.specs.declared.idle_set.IdlePeer.{IdlePeer}
-use Rattle.hub_machine.specs.Machines.{IsIndexed, IsKeptAs, IsPeerOf, IsStranger, StandsMachine, idle_peer_at, peer_at, settings_there}
+use Rattle.hub_machine.specs.Machines.{IsIndexed, IsKeptAs, IsPeerOf, IsStranger, SaysAsSent, StandsMachine, idle_peer_at, peer_at, settings_there}
 use Rattle.hub_machine.specs.IdleSet.{IsKept, is_awake_in, idle_peer_of}
 use Rattle.hub_machine.specs.Calls.{doing}
 use Rattle.hub_machine.proofs.Open.{registry_agrees, registry_closed}
@@ -167,11 +168,11 @@ kept_stays {H} hub old new k t h e same kept =
     (subst (λ q. IsKeptAs {H = H} hub old.idle_set.clock (idle_peer_at old k) t h q) (sym same) kept)
 
 -- the peer of one that is awake is that of its moves
-pub awake_is : {H Job : Type 0} (hub : Hub Job) (clock : ℕ) (idle_peer : Option IdlePeer) (t : Option Settings) (h : List PeerEvent) (p : Option (Peer H Job)) → idle_peer ≡ None
+pub awake_is : {H Job : Type 0} (hub : Hub Job) (clock : IdleClock) (idle_peer : Option IdlePeer) (t : Option Settings) (h : List PeerEvent) (p : Option (Peer H Job)) → idle_peer ≡ None
     → IsKeptAs {H = H} hub clock idle_peer t h p → IsPeerOf {H = H} hub t h p
 awake_is {H} hub clock idle_peer t h p e kept = subst (λ o. IsKeptAs {H = H} hub clock o t h p) e kept
 
-pub is_awake : {H Job : Type 0} (hub : Hub Job) (clock : ℕ) (idle_peer : Option IdlePeer) (t : Option Settings) (h : List PeerEvent) (p : Option (Peer H Job)) → idle_peer ≡ None
+pub is_awake : {H Job : Type 0} (hub : Hub Job) (clock : IdleClock) (idle_peer : Option IdlePeer) (t : Option Settings) (h : List PeerEvent) (p : Option (Peer H Job)) → idle_peer ≡ None
     → IsPeerOf {H = H} hub t h p → IsKeptAs {H = H} hub clock idle_peer t h p
 is_awake {H} hub clock idle_peer t h p e is = subst (λ o. IsKeptAs {H = H} hub clock o t h p) (sym e) is
 
@@ -235,6 +236,12 @@ module _ {H Job : Type 0} (hub : Hub Job) (old new : Machine H Job) (w : List Ma
       (subst (λ x. IsPeer hub x (ms ++ moves c w)) (same_settings k o e f) (peer_is {H = H} hub t p (ms ++ moves c w) stands)))
   peers_each k o e false f = subst (λ h. IsPeer hub o h) (sym (moves_stay c k ms w f)) (s.peers k o (sym (settings_stay k c ms w) ∙ e))
 
+  said_each : (k : ℕ) (o : Settings) → settings_of k (doing c ms w) ≡ Some o → (b : Bool) → (c == k) ≡ b → SaysAsSent o (moves k (doing c ms w))
+  said_each k o e true f =
+      subst (λ n. SaysAsSent o (moves n (doing c ms w))) (eqb-true c k f)
+      (subst (λ h. SaysAsSent o h) (sym (moves_done c ms w)) (subst (λ x. SaysAsSent x (ms ++ moves c w)) (same_settings k o e f) stands.end.said))
+  said_each k o e false f = subst (λ h. SaysAsSent o h) (sym (moves_stay c k ms w f)) (s.said k o (sym (settings_stay k c ms w) ∙ e))
+
   strangers_each : (k : ℕ) → settings_of k (doing c ms w) ≡ None → (b : Bool) → (c == k) ≡ b → IsStranger k (doing c ms w)
   strangers_each k e true f =
       absurd (let z : ◌≡◌ {A = Option Settings} (Some t) None =
@@ -254,6 +261,7 @@ module _ {H Job : Type 0} (hub : Hub Job) (old new : Machine H Job) (w : List Ma
     index = index_stays old new keeps s.index;
     registry = lists;
     peers = λ k o e. peers_each k o e (c == k) refl;
+    said = λ k o e. said_each k o e (c == k) refl;
     strangers = λ k e. strangers_each k e (c == k) refl;
     from_one = settings_stay 0 c ms w ∙ s.from_one;
   }

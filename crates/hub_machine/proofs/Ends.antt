@@ -134,6 +134,7 @@ unchanged {H} hub old new peers keeps kept = record {
     index = index_stays old new keeps s.index;
     registry = subst (λ r. StandsRegistry r (registry w)) (sym kept) s.registry;
     peers = s.peers;
+    said = s.said;
     strangers = s.strangers;
     from_one = s.from_one;
   };

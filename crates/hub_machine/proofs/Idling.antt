@@ -1,12 +1,12 @@
 -- What idle moves change: nothing but the moment. So a connection that sleeps goes on sleeping while rounds begin and its end ticks.
-use Rattle.std.proofs.Common.{◌≡◌, inl, ℕ, ◌+◌, ◌<◌, ◌≤◌, Bool, true, false, not, List, [], ◌∷◌, ◌++◌, Option, Some, None, is_some}
+use Rattle.std.proofs.Common.{◌≡◌, ◌⊎◌, inl, inr, ℕ, ◌+◌, ◌==◌, ◌<◌, ◌≤◌, Bool, true, false, not, List, [], ◌∷◌, ◌++◌, Option, Some, None, is_some}
 use Rattle.std.proofs.Common.{refl, sym, ap, subst, ◌∙◌, true≢false, arith, max}
-use Rattle.std.specs.Prelude.{◌&&◌, ◌||◌, nat_lt}
+use Rattle.std.specs.Prelude.{◌&&◌, ◌||◌, nat_lt, if◌then◌else◌}
 use Rattle.std.specs.List.{list_all}
-use Rattle.std.proofs.lemmas.Bool.{and_from, and_parts}
-use Rattle.hd_delivery.specs.Numbers.{ping_after}
+use Rattle.std.proofs.lemmas.Bool.{and_from, and_parts, cond-false, lt-ltb, ne_eqb}
+use Rattle.hd_delivery.specs.Numbers.{most_of_64_bits, ping_after}
 use Rattle.hd_delivery.specs.Histories as of
-use Rattle.hd_delivery.specs.Histories.{EndEvent, Ticked, Config, heard_moment, is_resumable, is_shaken, is_silence, present_link, written_moment}
+use Rattle.hd_delivery.specs.Histories.{EndEvent, Ticked, Config, heard_moment, is_resumable, is_shaken, is_silence, present_link, sent_messages, written_moment}
 use Rattle.hd_delivery.specs.Due.{due, is_quiet, is_unseen}
 use Rattle.hd_delivery.specs.Bytes.{Does as Step_of}
 use Rattle.hd_calls.specs.declared.vocabulary.Act.{Act}
@@ -14,17 +14,18 @@ use Rattle.hd_calls.specs.declared.vocabulary.Act.TheVariants as act
 use Rattle.hd_calls.specs.Hubs.{Hub}
 use Rattle.hd_calls.specs.Peers.{PeerEvent, Plain, Settings, acts, begun, codec, is_shut, last_of, live_job, is_cancelled, steps, waiting}
 use Rattle.hd_calls.specs.Peers as peers
-use Rattle.hd_calls.specs.Rules.{IsPeerDue, asking, next_input}
+use Rattle.hd_calls.specs.Rules.{IsPeerDue, asking, next_input, passed}
 use Rattle.hd_server.specs.Laws.{IdleTicksAreUnseen}
 use Rattle.hd_server.specs.Serves.{is_text}
 use Rattle.hp_peer.specs.declared.peer.Peer.{Peer}
+use Rattle.hub_machine.specs.declared.idle_set.IdleClock.{IdleClock}
 use Rattle.hub_machine.specs.declared.idle_set.IdlePeer.{IdlePeer}
 use Rattle.hub_machine.specs.Machines.{IsDeadlineOf, Sleeps, is_idle}
-use Rattle.hub_machine.specs.IdleSet.{deadline_in}
+use Rattle.hub_machine.specs.IdleSet.{after_round, deadline_in}
 
 -- ---- what is the same
 
--- both say the same of the end, its codec, the jobs that began and what waits
+-- both say the same of the end, its codec, what it sent, the jobs that began and what waits
 pub record SameButTime (t : Settings) (g h : List PeerEvent) : Type 0 where
   pub present : present_link (steps t h) ≡ present_link (steps t g)
   pub shut : is_shut t h ≡ is_shut t g
@@ -32,6 +33,7 @@ pub record SameButTime (t : Settings) (g h : List PeerEvent) : Type 0 where
   pub text : is_text t.config (steps t h) ≡ is_text t.config (steps t g)
   pub shaken : is_shaken (steps t h) ≡ is_shaken (steps t g)
   pub coded : codec t h ≡ codec t g
+  pub sent : sent_messages (steps t h) ≡ sent_messages (steps t g)
   pub begins : begun h ≡ begun g
   pub waits : waiting h ≡ waiting g
 
@@ -43,6 +45,7 @@ same_next t g h peers.Rounds e s = record {
   text = s.text;
   shaken = s.shaken;
   coded = s.coded;
+  sent = s.sent;
   begins = s.begins;
   waits = s.waits;
 }
@@ -53,18 +56,19 @@ same_next t g h (Plain (Step_of (Ticked now))) e s = record {
   text = s.text;
   shaken = s.shaken;
   coded = s.coded;
+  sent = s.sent;
   begins = s.begins;
   waits = s.waits;
 }
 same_next t g h _ e s = absurd (true≢false (sym e))
 
 pub idle_same : (t : Settings) (g xs : List PeerEvent) → list_all (is_idle t g) xs ≡ true → SameButTime t g (xs ++ g)
-idle_same t g [] e = record { present = refl; shut = refl; kept = refl; text = refl; shaken = refl; coded = refl; begins = refl; waits = refl }
+idle_same t g [] e = record { present = refl; shut = refl; kept = refl; text = refl; shaken = refl; coded = refl; sent = refl; begins = refl; waits = refl }
 idle_same t g (x ∷ xs) e =
     let parts = and_parts (is_idle t g x) (list_all (is_idle t g) xs) e in
     same_next t g (xs ++ g) x parts.0 (idle_same t g xs parts.1)
 
-pub slept_same : {H Job : Type 0} (hub : Hub Job) (clock : ℕ) (idle_peer : IdlePeer) (t : Settings) (p : Peer H Job) (h : List PeerEvent)
+pub slept_same : {H Job : Type 0} (hub : Hub Job) (clock : IdleClock) (idle_peer : IdlePeer) (t : Settings) (p : Peer H Job) (h : List PeerEvent)
     → (s : Sleeps {H = H} hub clock idle_peer t p h) → SameButTime t s.before h
 slept_same hub clock idle_peer t p h s = subst (SameButTime t s.before) (sym s.are) (idle_same t s.before s.since s.idle)
 
@@ -116,7 +120,7 @@ idle_alike law t g (x ∷ xs) e =
     let parts = and_parts (is_idle t g x) (list_all (is_idle t g) xs) e in
     alike_next law t g (xs ++ g) x parts.0 (idle_alike law t g xs parts.1)
 
-pub slept_alike : {H Job : Type 0} (law : IdleTicksAreUnseen) (hub : Hub Job) (clock : ℕ) (idle_peer : IdlePeer) (t : Settings) (p : Peer H Job) (h : List PeerEvent)
+pub slept_alike : {H Job : Type 0} (law : IdleTicksAreUnseen) (hub : Hub Job) (clock : IdleClock) (idle_peer : IdlePeer) (t : Settings) (p : Peer H Job) (h : List PeerEvent)
     → (s : Sleeps {H = H} hub clock idle_peer t p h) → TicksAlike t.config (steps t s.before) (steps t h)
 slept_alike law hub clock idle_peer t p h s =
     subst (λ ms. TicksAlike t.config (steps t s.before) (steps t ms)) (sym s.are) (idle_alike law t s.before s.since s.idle)
@@ -143,7 +147,7 @@ pub settled : (t : Settings) (g xs : List PeerEvent) → list_all (is_idle t g) 
 settled t g [] e f = f
 settled t g (x ∷ xs) e f = idle_asking t g (xs ++ g) x (and_parts (is_idle t g x) (list_all (is_idle t g) xs) e).0
 
-pub slept_settled : {H Job : Type 0} (hub : Hub Job) (clock : ℕ) (idle_peer : IdlePeer) (t : Settings) (p : Peer H Job) (h : List PeerEvent)
+pub slept_settled : {H Job : Type 0} (hub : Hub Job) (clock : IdleClock) (idle_peer : IdlePeer) (t : Settings) (p : Peer H Job) (h : List PeerEvent)
     → Sleeps {H = H} hub clock idle_peer t p h → asking h ≡ None
 slept_settled hub clock idle_peer t p h s = subst (λ ms. asking ms ≡ None) (sym s.are) (settled t s.before s.since s.idle s.stood.settled)
 
@@ -168,15 +172,30 @@ round_deadline : (clock : ℕ) (o : Option ℕ) (t : Settings) (h : List PeerEve
 round_deadline clock None t h a = a
 round_deadline clock (Some moment) t h a = a
 
-pub sleeps_on : {H Job : Type 0} (hub : Hub Job) (clock : ℕ) (idle_peer : IdlePeer) (t : Settings) (p : Peer H Job) (h : List PeerEvent)
-    → Sleeps {H = H} hub clock idle_peer t p h → Sleeps {H = H} hub clock idle_peer t p (peers.Rounds ∷ h)
+-- the number of rounds doesn't fall
+rounds_rise : (rounds clock : ℕ) (b : Bool) → rounds ≤ clock → rounds ≤ (if b then clock + 1 else clock)
+rounds_rise rounds clock true l = omega (arith, l)
+rounds_rise rounds clock false l = l
+
+-- and tells that a round has begun, unless no job had a turn before
+round_marked : (rounds clock was turned : ℕ) (b : Bool) → nat_lt clock most_of_64_bits ≡ b → rounds ≤ clock → (turned ≡ 0) ⊎ (clock < most_of_64_bits)
+    → turned ≡ (if rounds == clock then was else 0) → 0 ≡ (if rounds == (if b then clock + 1 else clock) then was else 0)
+round_marked rounds clock was turned true e l counted marked =
+    sym (cond-false (rounds == clock + 1) was 0 (ne_eqb rounds (clock + 1) (λ f. omega (arith, f, l))))
+round_marked rounds clock was turned false e l (inl none) marked = sym none ∙ marked
+round_marked rounds clock was turned false e l (inr few) marked =
+    absurd (true≢false (sym (lt-ltb clock most_of_64_bits few) ∙ e))
+
+pub sleeps_on : {H Job : Type 0} (hub : Hub Job) (clock : IdleClock) (idle_peer : IdlePeer) (t : Settings) (p : Peer H Job) (h : List PeerEvent)
+    → Sleeps {H = H} hub clock idle_peer t p h → Sleeps {H = H} hub (after_round clock) idle_peer t p (peers.Rounds ∷ h)
 sleeps_on {H} {Job} hub clock idle_peer t p h s = record {
   before = s.before;
   since = peers.Rounds ∷ s.since;
   are = ap (λ ms. peers.Rounds ∷ ms) s.are;
   idle = s.idle;
   stood = s.stood;
-  calm = s.calm;
+  begun = rounds_rise idle_peer.rounds clock.rounds (nat_lt clock.rounds most_of_64_bits) s.begun;
+  marked = round_marked idle_peer.rounds clock.rounds (passed s.before) (passed h) (nat_lt clock.rounds most_of_64_bits) refl s.begun s.may.counted s.marked;
   peer = record {
     follows = (s.peer.follows, tt);
     prompt = (s.peer.prompt, inl (slept_settled {H = H} {Job = Job} hub clock idle_peer t p h s));
@@ -184,10 +203,10 @@ sleeps_on {H} {Job} hub clock idle_peer t p h s = record {
   };
   may = record {
     unshut = s.may.unshut;
-    calm = refl;
     undue = λ d. s.may.undue (round_undue t h d);
     unsaid = s.may.unsaid;
-    deadline = round_deadline clock idle_peer.deadline t h s.may.deadline;
+    deadline = round_deadline clock.moment idle_peer.deadline t h s.may.deadline;
+    counted = inl refl;
   };
 }
 
@@ -215,11 +234,11 @@ pub deadline_is : (clock moment : ℕ) (idle_peer : IdlePeer) (t : Settings) (h 
 deadline_is clock moment idle_peer t h e a = subst (λ o. IsDeadlineOf clock o t h) e a
 
 -- the end of one that sleeps on a link ticks, before its alarm
-pub ticks_on : {H Job : Type 0} (law : IdleTicksAreUnseen) (hub : Hub Job) (clock now moment : ℕ) (idle_peer : IdlePeer) (t : Settings)
+pub ticks_on : {H Job : Type 0} (law : IdleTicksAreUnseen) (hub : Hub Job) (clock : IdleClock) (now moment : ℕ) (idle_peer : IdlePeer) (t : Settings)
     (p : Peer H Job) (h : List PeerEvent) → Sleeps {H = H} hub clock idle_peer t p h → deadline_in (Some idle_peer) ≡ Some moment → of.moment (steps t h) ≤ now
-    → now < moment → Sleeps {H = H} hub now idle_peer t p (Plain (Step_of (Ticked now)) ∷ h)
+    → now < moment → Sleeps {H = H} hub (record clock { moment = now }) idle_peer t p (Plain (Step_of (Ticked now)) ∷ h)
 ticks_on {H} {Job} law hub clock now moment idle_peer t p h s set in_time before =
-    let was = deadline_is clock moment idle_peer t h set s.may.deadline in
+    let was = deadline_is clock.moment moment idle_peer t h set s.may.deadline in
     let unseen : is_unseen t.config now (steps t h) ≡ true = was.3 now before in
     let alike = slept_alike {H = H} {Job = Job} law hub clock idle_peer t p h s in
     let same = slept_same {H = H} {Job = Job} hub clock idle_peer t p h s in
@@ -232,7 +251,8 @@ ticks_on {H} {Job} law hub clock now moment idle_peer t p h s set in_time before
           (and_from (is_some (present_link (steps t s.before))) _ (sym (ap is_some same.present) ∙ was.0) (sym (alike.unseen now) ∙ unseen))
           s.idle;
       stood = s.stood;
-      calm = s.calm;
+      begun = s.begun;
+      marked = s.marked;
       peer = record {
         follows = (s.peer.follows, tt);
         prompt = (s.peer.prompt, inl (slept_settled {H = H} {Job = Job} hub clock idle_peer t p h s));
@@ -240,30 +260,37 @@ ticks_on {H} {Job} law hub clock now moment idle_peer t p h s set in_time before
       };
       may = record {
         unshut = s.may.unshut;
-        calm = s.may.calm;
         undue = λ d. s.may.undue (tick_undue t now h d);
         unsaid = after.due ∙ s.may.unsaid;
-        deadline = subst (λ o. IsDeadlineOf now o t (Plain (Step_of (Ticked now)) ∷ h)) (sym set)
-            (was.0, later_is now (of.moment (steps t h)) in_time, before, λ later e. after.unseen later ∙ was.3 later e);
+        deadline = subst (λ o. IsDeadlineOf now o t (Plain (Step_of (Ticked now)) ∷ h)) (sym set) (
+          was.0,
+          later_is now (of.moment (steps t h)) in_time,
+          before,
+          (λ later e. after.unseen later ∙ was.3 later e),
+          was.4,
+          (λ later from few. after.unseen later ∙ was.5 later from few),
+        );
+        counted = s.may.counted;
       };
     }
 
 -- one that is on no link sleeps on at any moment
-pub away_on : {H Job : Type 0} (hub : Hub Job) (clock now : ℕ) (idle_peer : IdlePeer) (t : Settings) (p : Peer H Job) (h : List PeerEvent)
-    → Sleeps {H = H} hub clock idle_peer t p h → deadline_in (Some idle_peer) ≡ None → Sleeps {H = H} hub now idle_peer t p h
+pub away_on : {H Job : Type 0} (hub : Hub Job) (clock : IdleClock) (now : ℕ) (idle_peer : IdlePeer) (t : Settings) (p : Peer H Job) (h : List PeerEvent)
+    → Sleeps {H = H} hub clock idle_peer t p h → deadline_in (Some idle_peer) ≡ None → Sleeps {H = H} hub (record clock { moment = now }) idle_peer t p h
 away_on hub clock now idle_peer t p h s none = record {
   before = s.before;
   since = s.since;
   are = s.are;
   idle = s.idle;
   stood = s.stood;
-  calm = s.calm;
+  begun = s.begun;
+  marked = s.marked;
   peer = s.peer;
   may = record {
     unshut = s.may.unshut;
-    calm = s.may.calm;
     undue = s.may.undue;
     unsaid = s.may.unsaid;
-    deadline = subst (λ o. IsDeadlineOf now o t h) (sym none) (subst (λ o. IsDeadlineOf clock o t h) none s.may.deadline);
+    deadline = subst (λ o. IsDeadlineOf now o t h) (sym none) (subst (λ o. IsDeadlineOf clock.moment o t h) none s.may.deadline);
+    counted = s.may.counted;
   };
 }

@@ -41,6 +41,7 @@ pub mod Idle
 pub mod Looked
 pub mod Lagging
 pub mod Waking
+pub mod Napping
 pub mod Passing
 pub mod RoundWritesText
 pub mod FeedTaken

@@ -7,6 +7,7 @@ use Rattle.hd_calls.specs.Peers.{PeerEvent, Settings}
 use Rattle.hd_server.specs.Machine.{MachineEvent, moves}
 use Rattle.hp_peer.specs.declared.peer.Peer.{Peer}
 use Rattle.hub_machine.specs.declared.machine.Machine.{Machine}
+use Rattle.hub_machine.specs.declared.idle_set.IdleClock.{IdleClock}
 use Rattle.hub_machine.specs.declared.idle_set.IdlePeer.{IdlePeer}
 use Rattle.hub_machine.specs.Machines.{IsKeptAs, StandsMachine, idle_peer_at, peer_at, settings_there}
 use Rattle.hub_machine.specs.IdleSet.{AreRung, deadline_in}
@@ -71,7 +72,7 @@ module _ {H Job : Type 0} (hub : Hub Job) (old now new : Machine H Job) (conns :
   }
 
 -- one that sleeps is there
-asleep_there : {H Job : Type 0} (hub : Hub Job) (clock : ℕ) (idle_peer : Option IdlePeer) (t : Option Settings) (h : List PeerEvent)
+asleep_there : {H Job : Type 0} (hub : Hub Job) (clock : IdleClock) (idle_peer : Option IdlePeer) (t : Option Settings) (h : List PeerEvent)
     (p : Option (Peer H Job)) (moment : ℕ) → deadline_in idle_peer ≡ Some moment → p ≡ None → IsKeptAs {H = H} hub clock idle_peer t h p → ⊥
 asleep_there hub clock None t h p moment e f kept = let z : ◌≡◌ {A = Option ℕ} None (Some moment) = e in cc
 asleep_there {H} hub clock (Some idle_peer) None h p moment e f kept = kept

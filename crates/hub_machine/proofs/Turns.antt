@@ -15,6 +15,7 @@ use Rattle.hp_peer.specs.Stands.{OfEach, Stands}
 use Rattle.hp_peer.specs.Turning.{AfterTurns, AreTurns}
 use Rattle.hp_peer.specs.Turning as peer
 use Rattle.hub_machine.specs.declared.machine.Machine.{Machine}
+use Rattle.hub_machine.specs.declared.idle_set.IdleClock.{IdleClock}
 use Rattle.hub_machine.specs.declared.idle_set.IdlePeer.{IdlePeer}
 use Rattle.hub_machine.specs.Calls.{ClosesOut, doing}
 use Rattle.hub_machine.specs.Machines.{IsKeptAs, IsPeerOf, StandsMachine, idle_peer_at, peer_at, settings_there}
@@ -75,7 +76,7 @@ standing_of hub p None h s = absurd s
 standing_of hub p (Some t) h s = record { settings = t; there = refl; stands = s }
 
 -- one that has none isn't there
-gone_of : (H : Type 0) {Job : Type 0} (hub : Hub Job) (clock : ℕ) (idle_peer : Option IdlePeer) (o : Option Settings) (h : List PeerEvent)
+gone_of : (H : Type 0) {Job : Type 0} (hub : Hub Job) (clock : IdleClock) (idle_peer : Option IdlePeer) (o : Option Settings) (h : List PeerEvent)
     → IsKeptAs {H = H} hub clock idle_peer o h None → o ≡ None
 gone_of H hub clock idle_peer None h s = refl
 gone_of H hub clock None (Some t) h s = absurd s

@@ -12,15 +12,16 @@ use Rattle.hg_groups.specs.Standing.{StandsRegistry}
 use Rattle.hd_server.specs.Machine.{MachineEvent, Rounds, has_gone, is_open_at, is_there, moves, registry, settings_of}
 use Rattle.hp_peer.specs.declared.peer.Peer.{Peer}
 use Rattle.hub_machine.specs.declared.machine.Machine.{Machine}
+use Rattle.hub_machine.specs.declared.idle_set.IdleClock.{IdleClock}
 use Rattle.hub_machine.specs.declared.idle_set.IdlePeer.{IdlePeer}
-use Rattle.hub_machine.specs.Machines.{IsKeptAs, StandsMachine, idle_peer_at, peer_at, settings_there}
+use Rattle.hub_machine.specs.Machines.{IsIndexed, IsKeptAs, SaysAsSent, StandsMachine, idle_peer_at, peer_at, settings_there}
 use Rattle.hub_machine.specs.Rounds.{AreNumbers, AreRising, HasBegun}
-use Rattle.hub_machine.specs.IdleSet.{idle_peer_of}
+use Rattle.hub_machine.specs.IdleSet.{after_round, idle_peer_of}
 use Rattle.hub_machine.specs.Spreads.{is_listed}
 use Rattle.hub_machine.proofs.Delivered.{not_at}
 use Rattle.hub_machine.proofs.Doing.{KeepsIdleSet, index_stays}
 use Rattle.hub_machine.proofs.Idling.{sleeps_on}
-use Rattle.hub_machine.proofs.Lags.{kept_is_peer}
+use Rattle.hub_machine.proofs.Lags.{kept_is_peer, kept_says}
 use Rattle.hub_machine.proofs.Numbers.{listed_at, rising_at}
 use Rattle.hub_machine.proofs.Open.{registry_agrees}
 
@@ -43,9 +44,9 @@ HasBegunAs hub None p q = HasBegun hub p q
 HasBegunAs hub (Some idle_peer) p q = q ≡ p
 
 -- one that is there is kept as it was, for the round too
-pub kept_at : {H Job : Type 0} (hub : Hub Job) (clock : ℕ) (idle_peer : Option IdlePeer) (g : Bool) (s : Option Settings) (p q : Option (Peer H Job))
+pub kept_at : {H Job : Type 0} (hub : Hub Job) (clock : IdleClock) (idle_peer : Option IdlePeer) (g : Bool) (s : Option Settings) (p q : Option (Peer H Job))
     (h : List PeerEvent) → IsKeptAs {H = H} hub clock idle_peer (if g then None else s) h p → HasBegunAs {H = H} hub idle_peer p q
-    → IsKeptAs {H = H} hub clock idle_peer (if g then None else s) (if is_some s && not g then peers.Rounds ∷ h else h) q
+    → IsKeptAs {H = H} hub (after_round clock) idle_peer (if g then None else s) (if is_some s && not g then peers.Rounds ∷ h else h) q
 kept_at hub clock None true s None None h a b = tt
 kept_at hub clock None true s None (Some q) h a b = absurd b
 kept_at hub clock None true s (Some p) q h a b = absurd a
@@ -59,10 +60,10 @@ kept_at hub clock (Some idle_peer) true s p q h a b = absurd a
 kept_at hub clock (Some idle_peer) false None p q h a b = absurd a
 kept_at hub clock (Some idle_peer) false (Some t) None q h a b = absurd a
 kept_at {H} {Job} hub clock (Some idle_peer) false (Some t) (Some p) q h a b =
-    subst (λ o. IsKeptAs {H = H} hub clock (Some idle_peer) (Some t) (peers.Rounds ∷ h) o) (sym b) (sleeps_on {H = H} {Job = Job} hub clock idle_peer t p h a)
+    subst (λ o. IsKeptAs {H = H} hub (after_round clock) (Some idle_peer) (Some t) (peers.Rounds ∷ h) o) (sym b) (sleeps_on {H = H} {Job = Job} hub clock idle_peer t p h a)
 
 -- so what it did is what a peer can do
-peers_at : {H Job : Type 0} (hub : Hub Job) (clock : ℕ) (idle_peer : Option IdlePeer) (t : Settings) (g : Bool) (s : Option Settings) (q : Option (Peer H Job))
+peers_at : {H Job : Type 0} (hub : Hub Job) (clock : IdleClock) (idle_peer : Option IdlePeer) (t : Settings) (g : Bool) (s : Option Settings) (q : Option (Peer H Job))
     (h : List PeerEvent) → s ≡ Some t → IsKeptAs {H = H} hub clock idle_peer (if g then None else s) (if is_some s && not g then peers.Rounds ∷ h else h) q
     → IsPeer hub t h → IsPeer hub t (if is_some s && not g then peers.Rounds ∷ h else h)
 peers_at hub clock idle_peer t true None q h e a o = o
@@ -72,21 +73,45 @@ peers_at {H} {Job} hub clock idle_peer t false (Some u) q h e a o =
     kept_is_peer {H = H} {Job = Job} hub clock idle_peer t (peers.Rounds ∷ h) q
     (subst (λ (s : Option Settings). IsKeptAs {H = H} hub clock idle_peer s (peers.Rounds ∷ h) q) e a)
 
+-- and what it sent is said
+says_at : {H Job : Type 0} (hub : Hub Job) (clock : IdleClock) (idle_peer : Option IdlePeer) (t : Settings) (g : Bool) (s : Option Settings) (q : Option (Peer H Job))
+    (h : List PeerEvent) → s ≡ Some t → IsKeptAs {H = H} hub clock idle_peer (if g then None else s) (if is_some s && not g then peers.Rounds ∷ h else h) q
+    → SaysAsSent t h → SaysAsSent t (if is_some s && not g then peers.Rounds ∷ h else h)
+says_at hub clock idle_peer t true None q h e a o = o
+says_at hub clock idle_peer t true (Some u) q h e a o = o
+says_at hub clock idle_peer t false None q h e a o = o
+says_at {H} {Job} hub clock idle_peer t false (Some u) q h e a o =
+    kept_says {H = H} {Job = Job} hub clock idle_peer t (peers.Rounds ∷ h) q
+    (subst (λ (s : Option Settings). IsKeptAs {H = H} hub clock idle_peer s (peers.Rounds ∷ h) q) e a)
+
 -- a round has begun at each peer of those that are awake, and the others, the registry and the sleepers are as they were
 pub record RoundBegan {H Job : Type 0} (hub : Hub Job) (old new : Machine H Job) : Type 0 where
   pub each : (c : ℕ) → HasBegunAs hub (idle_peer_at old c) (peer_at old c) (peer_at new c)
   pub keeps : KeepsIdleSet old new
   pub registry : new.registry ≡ old.registry
 
+-- and the round is counted
+abbrev pub counted : {H Job : Type 0} → Machine H Job → Machine H Job
+counted m = record m { idle_set = record m.idle_set { clock = after_round m.idle_set.clock } }
+
+index_counted : {H Job : Type 0} (m : Machine H Job) → IsIndexed {H = H} m → IsIndexed {H = H} (counted {H = H} {Job = Job} m)
+index_counted m index = record {
+  kept = record { rising = index.kept.rising; set = index.kept.set; only = index.kept.only };
+  awake = index.awake;
+  room = index.room;
+}
+
 pub rounds_stand : {H Job : Type 0} (hub : Hub Job) (old new : Machine H Job) (w : List MachineEvent) (now : ℕ)
-    → StandsMachine hub old w → RoundBegan hub old new → StandsMachine hub new (Rounds now ∷ w)
+    → StandsMachine hub old w → RoundBegan hub old new → StandsMachine hub (counted {H = H} {Job = Job} new) (Rounds now ∷ w)
 rounds_stand {H} {Job} hub old new w now was began = record {
   at = at;
-  index = index_stays old new began.keeps was.index;
+  index = index_counted {H = H} {Job = Job} new (index_stays old new began.keeps was.index);
   registry = subst (λ r. StandsRegistry r (registry (Rounds now ∷ w))) (sym began.registry)
       (subst (StandsRegistry old.registry) (sym same) was.registry);
-  peers = λ c t e. peers_at {H = H} hub new.idle_set.clock (idle_peer_at new c) t (has_gone c w) (settings_of c w) (peer_at new c) (moves c w) e (at c)
-      (was.peers c t e);
+  peers = λ c t e. peers_at {H = H} hub (after_round new.idle_set.clock) (idle_peer_at new c) t (has_gone c w) (settings_of c w) (peer_at new c) (moves c w) e
+      (at c) (was.peers c t e);
+  said = λ c t e. says_at {H = H} {Job = Job} hub (after_round new.idle_set.clock) (idle_peer_at new c) t (has_gone c w) (settings_of c w) (peer_at new c) (moves c w) e (at c)
+      (was.said c t e);
   strangers = λ c e. let s = was.strangers c e in record {
     unknown = s.unknown;
     unmoved = unmoved_still (settings_of c w) (not (has_gone c w)) (moves c w) e s.unmoved;
@@ -96,9 +121,10 @@ rounds_stand {H} {Job} hub old new w now was began = record {
 }
   where
     at : (c : ℕ)
-        → IsKeptAs {H = H} hub new.idle_set.clock (idle_peer_at new c) (settings_there c (Rounds now ∷ w)) (moves c (Rounds now ∷ w)) (peer_at new c)
+        → IsKeptAs {H = H} hub (after_round new.idle_set.clock) (idle_peer_at new c) (settings_there c (Rounds now ∷ w)) (moves c (Rounds now ∷ w))
+        (peer_at new c)
     at c =
-        subst (λ n. IsKeptAs {H = H} hub n.clock (idle_peer_of n c) (settings_there c (Rounds now ∷ w)) (moves c (Rounds now ∷ w)) (peer_at new c))
+        subst (λ n. IsKeptAs {H = H} hub (after_round n.clock) (idle_peer_of n c) (settings_there c (Rounds now ∷ w)) (moves c (Rounds now ∷ w)) (peer_at new c))
         (sym began.keeps.idle_set)
         (kept_at {H = H} {Job = Job} hub old.idle_set.clock (idle_peer_at old c) (has_gone c w) (settings_of c w) (peer_at old c) (peer_at new c) (moves c w)
         (was.at c) (began.each c))

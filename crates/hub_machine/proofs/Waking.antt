@@ -1,20 +1,15 @@
 -- A connection wakes: its peer stands for all that it did, and all else is as it was.
-use Rattle.std.proofs.Common.{◌≡◌, ℕ, ◌≤◌, Bool, true, false, ◌&&◌, List, ◌∷◌, Option, Some, None, is_some, refl, sym, ap, subst, ◌∙◌, arith}
-use Rattle.std.specs.Prelude.{if◌then◌else◌}
+use Rattle.std.proofs.Common.{◌≡◌, ℕ, Bool, true, ◌&&◌, List, Option, Some, None, is_some, refl, sym, ap, subst}
 use Rattle.std.specs.Ordering.{nat_cmp}
 use Rattle.std.specs.BTreeMap.{BTreeMap, WritesThrough}
-use Rattle.hd_delivery.specs.Histories as of
-use Rattle.hd_delivery.specs.Histories.{Silenced, Ticked, is_silence}
-use Rattle.hd_delivery.specs.Bytes.{Does as Step_of}
 use Rattle.hd_calls.specs.Hubs.{Hub}
-use Rattle.hd_calls.specs.Laws.{TablesAgree}
-use Rattle.hd_calls.specs.Peers.{PeerEvent, Plain, Settings, steps}
-use Rattle.hd_server.specs.Laws.{IdleTicksAreUnseen}
+use Rattle.hd_calls.specs.Peers.{PeerEvent, Settings}
 use Rattle.hd_server.specs.Machine.{MachineEvent, moves}
 use Rattle.hv_value.specs.SortedSet.{HasPlace}
 use Rattle.hp_peer.specs.declared.peer.Peer.{Peer}
-use Rattle.hp_peer.specs.Stands.{OfEach, Stands}
+use Rattle.hp_peer.specs.Stands.{Stands}
 use Rattle.hub_machine.specs.declared.machine.Machine.{Machine}
+use Rattle.hub_machine.specs.declared.idle_set.IdleClock.{IdleClock}
 use Rattle.hub_machine.specs.declared.idle_set.IdlePeer.{IdlePeer}
 use Rattle.hub_machine.specs.declared.idle_set.IdleSet.{IdleSet}
 use Rattle.hub_machine.specs.MachineView.{MachineView, StandsFor}
@@ -23,13 +18,11 @@ use Rattle.hub_machine.specs.IdleSet.{Changes, IsKept}
 use Rattle.hub_machine.proofs.Awake.{each_kept, has_place, index_changed, kept_by}
 use Rattle.hub_machine.proofs.Doing.{KeepsIdleSet, PutsPeer}
 use Rattle.hub_machine.proofs.Ends.{keeps, written}
-use Rattle.hub_machine.proofs.Idling.{unsilent}
-use Rattle.hub_machine.proofs.Lagging.{catches_up, makes_up, stays_away}
 
 -- ---- it wakes
 
 -- the peer that lagged behind stands for all that was done
-wakes_as : {H Job : Type 0} (hub : Hub Job) (clock : ℕ) (idle_peer : IdlePeer) (p q : Peer H Job)
+wakes_as : {H Job : Type 0} (hub : Hub Job) (clock : IdleClock) (idle_peer : IdlePeer) (p q : Peer H Job)
     → ((t : Settings) (h : List PeerEvent) → Sleeps {H = H} hub clock idle_peer t p h → Stands {H = H} hub t q h)
     → (t : Option Settings) (h : List PeerEvent) → IsKeptAs {H = H} hub clock (Some idle_peer) t h (Some p) → IsPeerOf {H = H} hub t h (Some q)
 wakes_as hub clock idle_peer p q f None h k = absurd k
@@ -71,40 +64,10 @@ module _ {H Job : Type 0} (hub : Hub Job) (old : Machine H Job) (c : ℕ) (p q :
     index = indexed s.index;
     registry = s.registry;
     peers = s.peers;
+    said = s.said;
     strangers = s.strangers;
     from_one = s.from_one;
   }
 
   pub woke_for : (a : MachineView) → StandsFor {H = H} hub old a → StandsFor {H = H} hub awoken a
   woke_for a s = record { at = kept s.index a.settings a.moves s.at; index = indexed s.index; registry = s.registry }
-
--- ---- what its peer does then
-
--- it ticks once
-pub ticked : {H Job : Type 0} (law : IdleTicksAreUnseen) (tables : TablesAgree) (hub : Hub Job) (clock now : ℕ) (idle_peer : IdlePeer) (p q : Peer H Job)
-    (silent : Bool) → now ≡ clock → is_some idle_peer.deadline ≡ true
-    → OfEach {H = H} hub p (λ t h. of.moment (steps t h) ≤ now → (silent ≡ is_silence t.config now (steps t h))
-    × Stands {H = H} hub t q (Plain (Step_of (if silent then Silenced now else Ticked now)) ∷ h))
-    → (t : Settings) (h : List PeerEvent) → Sleeps {H = H} hub clock idle_peer t p h → Stands {H = H} hub t q h
-ticked {H} {Job} law tables hub clock now idle_peer p q silent e set ticks t h s = go idle_peer.deadline refl
-  where
-    go : (o : Option ℕ) → idle_peer.deadline ≡ o → Stands {H = H} hub t q h
-    go None f = absurd (let z : false ≡ true = sym (ap is_some f) ∙ set in cc)
-    go (Some moment) f =
-        let up = makes_up {H = H} {Job = Job} law tables hub clock idle_peer t p h s moment f in
-        let early = up.1 in
-        let did = ticks t s.before s.stood (omega (arith, early, e)) in
-        let unsilenced : silent ≡ false = did.0 ∙ ap (λ n. is_silence t.config n (steps t s.before)) e
-        ∙ unsilent t.config clock (steps t s.before) up.0 in
-        catches_up {H = H} {Job = Job} law tables hub clock idle_peer t p h s q moment f
-        (subst (λ n. Stands {H = H} hub t q (Plain (Step_of (Ticked n)) ∷ s.before)) e
-        (subst (λ b. Stands {H = H} hub t q (Plain (Step_of (if b then Silenced now else Ticked now)) ∷ s.before)) unsilenced did.1))
-
--- it is on no link, and does nothing
-pub away : {H Job : Type 0} (law : IdleTicksAreUnseen) (tables : TablesAgree) (hub : Hub Job) (clock : ℕ) (idle_peer : IdlePeer) (p : Peer H Job)
-    → is_some idle_peer.deadline ≡ false → (t : Settings) (h : List PeerEvent) → Sleeps {H = H} hub clock idle_peer t p h → Stands {H = H} hub t p h
-away {H} {Job} law tables hub clock idle_peer p unset t h s = stays_away {H = H} {Job = Job} law tables hub clock idle_peer t p h s (go idle_peer.deadline refl)
-  where
-    go : (o : Option ℕ) → idle_peer.deadline ≡ o → idle_peer.deadline ≡ None
-    go None f = f
-    go (Some moment) f = absurd (let z : true ≡ false = sym (ap is_some f) ∙ unset in cc)

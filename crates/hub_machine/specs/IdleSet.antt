@@ -1,12 +1,14 @@
 -- Which connections sleep, and which are awake.
-use Rattle.std.specs.Prelude.{◌≡◌, ◌≤◌, ◌==◌, ℕ, Bool, true, List, Option, Some, None, if◌then◌else◌}
+use Rattle.std.specs.Prelude.{◌≡◌, ◌≤◌, ◌==◌, ◌+◌, ℕ, nat_lt, Bool, true, List, Option, Some, None, if◌then◌else◌}
 use Rattle.std.specs.declared.cmp.Ordering.{Ordering}
 use Rattle.std.specs.Ordering.{nat_cmp, ordering_then}
 use Rattle.std.specs.BTreeMap.{get}
 use Rattle.std.specs.BTreeSet.{contains}
 use Rattle.std.specs.Vec.{vec_capacity}
+use Rattle.hd_delivery.specs.Numbers.{most_of_64_bits}
 use Rattle.hv_value.specs.SortedSet.{IsRising, is_in}
 use Rattle.hub_machine.specs.declared.idle_set.Deadline.{Deadline}
+use Rattle.hub_machine.specs.declared.idle_set.IdleClock.{IdleClock}
 use Rattle.hub_machine.specs.declared.idle_set.IdlePeer.{IdlePeer}
 use Rattle.hub_machine.specs.declared.idle_set.IdleSet.{IdleSet}
 use Rattle.hub_machine.specs.Spreads.{is_listed}
@@ -30,10 +32,11 @@ abbrev pub deadline_in : Option IdlePeer → Option ℕ
 deadline_in None = None
 deadline_in (Some idle_peer) = idle_peer.deadline
 
--- those that are awake are in order, and the alarms of those that sleep are set
+-- those that are awake are in order, and the alarms of those that sleep are set, and no others
 pub record IsKept (s : IdleSet) : Type 0 where
   pub rising : IsRising s.awake.numbers.items
   pub set : (c moment : ℕ) → deadline_in (idle_peer_of s c) ≡ Some moment → is_set_in s moment c ≡ true
+  pub only : (c moment : ℕ) → is_set_in s moment c ≡ true → deadline_in (idle_peer_of s c) ≡ Some moment
 
 -- what changed, and what is kept
 pub record Changes (old new : IdleSet) (c : ℕ) (idle_peer : Option IdlePeer) (is_awake : Bool) : Type 0 where
@@ -42,6 +45,10 @@ pub record Changes (old new : IdleSet) (c : ℕ) (idle_peer : Option IdlePeer) (
   pub awake : (k : ℕ) → is_awake_in new k ≡ (if c == k then is_awake else is_awake_in old k)
   pub clock : new.clock ≡ old.clock
   pub capacity : vec_capacity old.awake.numbers ≤ vec_capacity new.awake.numbers
+
+-- one round more has begun, as far as 64 bits count
+abbrev pub after_round : IdleClock → IdleClock
+after_round clock = record clock { rounds = if nat_lt clock.rounds most_of_64_bits then clock.rounds + 1 else clock.rounds }
 
 -- these are those whose alarms have come at the moment
 abbrev pub AreRung : IdleSet → ℕ → List ℕ → Type 0

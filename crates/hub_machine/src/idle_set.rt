@@ -4,7 +4,7 @@
 ghost use Rattle.std.specs.Prelude.{◌≡◌, ◌≤◌, ◌==◌, ℕ, true, false, Some, None, OnOk, IfOk, is_some, if◌then◌else◌};
 ghost use Rattle.std.specs.Vec.{vec_capacity};
 ghost use Rattle.hv_value.specs.SortedSet.{HasPlace};
-ghost use Rattle.hub_machine.specs.IdleSet.{AreRung, Changes, IsKept, is_awake_in, is_set_in, idle_peer_of};
+ghost use Rattle.hub_machine.specs.IdleSet.{AreRung, Changes, IsKept, after_round, is_awake_in, is_set_in, idle_peer_of};
 
 use hv_value::SortedSet;
 use std::alloc::{AllocError, Global};
@@ -15,6 +15,17 @@ use std::collections::{BTreeMap, BTreeSet};
 pub struct IdlePeer {
     /// Before this moment, in milliseconds, no tick does more than pass. None: its end is on no link, so that no tick comes.
     pub(crate) deadline: Option<u64>,
+    /// How many rounds had begun when it fell asleep.
+    pub(crate) rounds: u64,
+}
+
+/// How far those that sleep have come, at all of which the same happens.
+#[derive(Clone, Copy, Debug, PartialEq, Eq)]
+pub struct IdleClock {
+    /// The moment to which those on a link have ticked.
+    pub(crate) moment: u64,
+    /// How many rounds have begun, as far as 64 bits count.
+    pub(crate) rounds: u64,
 }
 
 /// A moment at which a connection is to wake. They are ordered by the moments, and at one moment by the numbers.
@@ -31,8 +42,7 @@ pub struct IdleSet {
     pub(crate) awake: SortedSet,
     pub(crate) idle_peers: BTreeMap<u64, IdlePeer>,
     pub(crate) deadlines: BTreeSet<Deadline>,
-    /// The moment to which those that sleep on a link have ticked.
-    pub(crate) clock: u64,
+    pub(crate) clock: IdleClock,
 }
 
 impl IdleSet {
@@ -46,7 +56,10 @@ impl IdleSet {
             awake: SortedSet::start(alloc),
             idle_peers: BTreeMap::new(alloc),
             deadlines: BTreeSet::new(alloc),
-            clock: 0,
+            clock: IdleClock {
+                moment: 0,
+                rounds: 0,
+            },
         }
     }
 
@@ -69,14 +82,16 @@ impl IdleSet {
 
     /// Whether a connection is listed as awake.
     pub(crate) fn is_awake(&self, conn: u64) -> bool
-        ensures { IsKept self.now → result ≡ true → is_awake_in self.now conn ≡ true }
+        ensures { IsKept self.now → result ≡ is_awake_in self.now conn }
     {
         self.awake.numbers().binary_search(&conn).is_ok()
     }
 
     /// A connection is there no more.
     pub(crate) fn forget(&mut self, conn: u64)
-        ensures { IsKept self.old → Changes self.old self.new conn None false }
+        ensures kept { IsKept self.old → Changes self.old self.new conn None false }
+        ensures idle_peers { (k : ℕ) → idle_peer_of self.new k ≡ (if conn == k then None else idle_peer_of self.old k) }
+        ensures clock { self.new.clock ≡ self.old.clock }
     {
         self.awake.remove(conn);
         if let Some(idle_peer) = self.idle_peers.remove(&conn) {
@@ -86,6 +101,7 @@ impl IdleSet {
 
     /// Its alarm is set no more, if it has one.
     fn unset(&mut self, conn: u64, idle_peer: IdlePeer)
+        ensures own { (moment : ℕ) → (is_set_in self.old moment conn ≡ true → idle_peer.deadline ≡ Some moment) → is_set_in self.new moment conn ≡ false }
         ensures same { (self.new.awake ≡ self.old.awake) × (self.new.idle_peers ≡ self.old.idle_peers) × (self.new.clock ≡ self.old.clock) }
         ensures others { (k : ℕ) (moment : ℕ) → (conn == k) ≡ false → is_set_in self.new moment k ≡ is_set_in self.old moment k }
     {
@@ -111,7 +127,9 @@ impl IdleSet {
 
     /// A connection that is awake falls asleep.
     pub(crate) fn fall_asleep(&mut self, conn: u64, idle_peer: IdlePeer) -> Result<(), AllocError>
-        ensures { OnOk result (IsKept self.old → Changes self.old self.new conn (Some idle_peer) false) }
+        ensures sleeps { OnOk result (IsKept self.old → idle_peer_of self.old conn ≡ None → Changes self.old self.new conn (Some idle_peer) false) }
+        ensures idle_peers { OnOk result ((k : ℕ) → idle_peer_of self.new k ≡ (if conn == k then Some idle_peer else idle_peer_of self.old k)) }
+        ensures clock { OnOk result (self.new.clock ≡ self.old.clock) }
     {
         if let Some(moment) = idle_peer.deadline {
             self.deadlines.insert(Deadline { moment, conn })?;
@@ -119,6 +137,15 @@ impl IdleSet {
         self.idle_peers.insert(conn, idle_peer)?;
         self.awake.remove(conn);
         Ok(())
+    }
+
+    /// A round begins.
+    pub(crate) fn begin_round(&mut self)
+        ensures { self.new ≡ record self.old { clock = after_round self.old.clock } }
+    {
+        if self.clock.rounds < u64::MAX {
+            self.clock.rounds += 1;
+        }
     }
 
     /// Those whose alarms have come.

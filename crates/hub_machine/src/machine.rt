@@ -16,6 +16,7 @@ ghost use Rattle.hj_jobs.specs.Meaning.{meaning};
 ghost use Rattle.hp_peer.specs.Stands.{settings};
 ghost use Rattle.hub_machine.specs.Machines.{IsAsItWas, OfConn, peer_at, settings_there, StandsMachine};
 ghost use Rattle.hub_machine.specs.Calls.{ClosesOut, ClosesOutIf, HasSaid, IsUntaken, Takes};
+ghost use Rattle.hub_machine.specs.Sleeping.{KeepsOthers};
 
 use crate::idle_set::IdleSet;
 use crate::peer_traffic::{is_over, say_one};
@@ -95,6 +96,8 @@ impl<H: Hub> Machine<H> {
     pub fn remove_conn(&mut self, conn: u64)
         ensures gone { OfConn (meaning H.begin_of H.step_of) self.old conn (λ w t h. StandsMachine (meaning H.begin_of H.step_of) self.new (Goes conn ∷ w)) }
         ensures none { peer_at self.old conn ≡ None → self.new ≡ self.old }
+        ensures absent { peer_at self.new conn ≡ None }
+        ensures keeps { KeepsOthers self.old self.new conn }
     {
         if !self.peers.contains_key(&conn) {
             return;

@@ -84,6 +84,7 @@ impl<H: Hub> Machine<H> {
         for &conn in conns {
             self.begin_round_at(conn);
         }
+        self.idle_set.begin_round();
     }
 
     /// A round begins at the connection, if it is there.

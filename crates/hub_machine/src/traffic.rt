@@ -7,6 +7,7 @@ ghost use Rattle.hd_calls.specs.Peers.{is_shut, steps};
 ghost use Rattle.hd_server.specs.Serves.{is_text};
 ghost use Rattle.hj_jobs.specs.Meaning.{meaning};
 ghost use Rattle.hub_machine.specs.Machines.{OfConn, peer_at};
+ghost use Rattle.hub_machine.specs.Sleeping.{KeepsOthers};
 ghost use Rattle.hub_machine.specs.Traffic.{FeedsBytes, HasTicked, IsClear, LendsDue, LendsSome, IsServers};
 
 use crate::machine::Machine;
@@ -139,8 +140,9 @@ impl<H: Hub> Machine<H> {
 
     /// The body of a poll's reply: what is due, up to the frame with which it is full. True exactly if there was any.
     pub fn say_some(&mut self, conn: u64, body: &mut Vec<u8>) -> Result<bool, AllocError>
-        ensures { IfOk result (λ any. OfConn (meaning H.begin_of H.step_of) self.old conn (λ w t h. body.old.items ≡ [] →
+        ensures lent { IfOk result (λ any. OfConn (meaning H.begin_of H.step_of) self.old conn (λ w t h. body.old.items ≡ [] →
             LendsSome (meaning H.begin_of H.step_of) self.new conn w t h any body.new.items)) }
+        ensures keeps { KeepsOthers self.old self.new conn }
     {
         self.ensure_awake(conn);
         let Some(peer) = self.peers.get_mut(&conn) else {
@@ -156,6 +158,7 @@ impl<H: Hub> Machine<H> {
         ensures text { IfOk result (λ spoken. OfConn (meaning H.begin_of H.step_of) self.old conn (λ w t h.
             IsServers t h → spoken.text ≡ is_text t.config (steps t h))) }
         ensures closed { IfOk result (λ spoken. OfConn (meaning H.begin_of H.step_of) self.new conn (λ w t h. spoken.closed ≡ is_shut t h)) }
+        ensures keeps { KeepsOthers self.old self.new conn }
     {
         self.ensure_awake(conn);
         let Some(peer) = self.peers.get_mut(&conn) else {

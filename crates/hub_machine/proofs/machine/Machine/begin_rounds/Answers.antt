@@ -1,5 +1,7 @@
-use Rattle.std.proofs.Common.{arith}
+use Rattle.std.proofs.Common.{◌∷◌, arith, sym, subst}
+use Rattle.hd_server.specs.Machine.{Rounds}
 use Rattle.hj_jobs.specs.Meaning.{meaning}
+use Rattle.hub_machine.specs.Machines.{StandsMachine}
 use Rattle.hub_machine.proofs.Unmoved.{begun_at, begun_everywhere, begun_nowhere, rounds_stand}
 use Rattle.hub_machine.proofs.machine.Machine.begin_rounds.Goals as goal
 
@@ -15,6 +17,7 @@ loop-conn-preserved g c =
 pub returns : goal.returns
 returns g c = λ w now numbers was.
     let hub = meaning g.H.Hub.begin_of g.H.Hub.step_of in
-    rounds_stand hub c.args.self.now c.loop-conn.self w now was
+    subst (λ s. StandsMachine {H = g.row.H.Denot} hub (record c.loop-conn.self { idle_set = s }) (Rounds now ∷ w)) (sym c.begin_round.ensures)
+    (rounds_stand hub c.args.self.now c.loop-conn.self w now was
     (begun_everywhere hub c.args.self.now c.loop-conn.self c.args.conns.now c.loop-conn.conn-index (omega (arith, c.loop-conn-test.false))
-    c.loop-conn.invariant numbers)
+    c.loop-conn.invariant numbers))

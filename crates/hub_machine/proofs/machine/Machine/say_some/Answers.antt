@@ -5,8 +5,8 @@ use Rattle.hub_machine.proofs.Ends.{awake_now, stood}
 use Rattle.hub_machine.proofs.TookSaid.{lends_on}
 use Rattle.hub_machine.proofs.machine.Machine.say_some.Goals as goal
 
-pub returns : goal.returns
-returns g c = IfOk-weaker c.say_body.result _ _ (λ any says w t s there empty.
+pub returns-clause-lent : goal.returns-clause-lent
+returns-clause-lent g c = IfOk-weaker c.say_body.result _ _ (λ any says w t s there empty.
     let hub = meaning g.H.Hub.begin_of g.H.Hub.step_of in
     let conn = c.args.conn in
     let mid = c.ensure_awake.new.self in

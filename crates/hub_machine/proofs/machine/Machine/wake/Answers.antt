@@ -1,46 +1,25 @@
 use Rattle.hj_jobs.specs.Meaning.{meaning}
-use Rattle.std.proofs.Common.{refl, sym}
-use Rattle.hub_machine.proofs.Waking.{away, ticked, woke, woke_for}
+use Rattle.std.proofs.Common.{refl, sym, subst}
+use Rattle.hub_machine.specs.Machines.{Sleeps}
+use Rattle.hub_machine.proofs.Waking.{woke, woke_for}
 use Rattle.hub_machine.proofs.machine.Machine.wake.Goals as goal
 
-pub returns-then-is_some-clause-stands : goal.returns-then-is_some-clause-stands
-returns-then-is_some-clause-stands g c =
+pub returns-clause-stands : goal.returns-clause-stands
+returns-clause-stands g c =
     let hub = meaning g.H.Hub.begin_of g.H.Hub.step_of in
-    woke {H = g.row.H.Denot} {Job = g.row.H-Job.Denot} hub c.args.self.now c.args.conn c.in-Some.peer.now c.tick-silent.new.self
-    c.in-Some-wake.idle_peer (c.get_mut.follows.lender c.tick-silent.new.self) c.wake.new.self c.in-Some.ensures.value
-    (c.get_mut.follows.holds c.tick-silent.new.self)
+    woke {H = g.row.H.Denot} {Job = g.row.H-Job.Denot} hub c.args.self.now c.args.conn c.in-Some.peer.now c.catch_up.new.peer
+    c.in-Some-wake.idle_peer (c.get_mut.follows.lender c.catch_up.new.peer) c.wake.new.self c.in-Some.ensures.value
+    (c.get_mut.follows.holds c.catch_up.new.peer)
     c.in-Some-wake.ensures.idle_peer (c.in-Some-wake.ensures.wakes refl)
-    (ticked {H = g.row.H.Denot} {Job = g.row.H-Job.Denot} c.idle_ticks.ensures c.tables_agree.ensures hub c.args.self.now.idle_set.clock
-    c.wake.new.self.clock c.in-Some-wake.idle_peer c.in-Some.peer.now c.tick-silent.new.self c.tick-silent.result c.wake.ensures.clock
-    (sym c.if-is_some.ensures) c.tick-silent.ensures.ticks)
+    (λ t h s. c.catch_up.ensures.stands t h
+    (subst (λ k. Sleeps {H = g.row.H.Denot} hub k c.in-Some-wake.idle_peer t c.in-Some.peer.now h) (sym c.wake.ensures.clock) s))
 
-pub returns-then-is_some-clause-stands_for : goal.returns-then-is_some-clause-stands_for
-returns-then-is_some-clause-stands_for g c =
+pub returns-clause-stands_for : goal.returns-clause-stands_for
+returns-clause-stands_for g c =
     let hub = meaning g.H.Hub.begin_of g.H.Hub.step_of in
-    woke_for {H = g.row.H.Denot} {Job = g.row.H-Job.Denot} hub c.args.self.now c.args.conn c.in-Some.peer.now c.tick-silent.new.self
-    c.in-Some-wake.idle_peer (c.get_mut.follows.lender c.tick-silent.new.self) c.wake.new.self c.in-Some.ensures.value
-    (c.get_mut.follows.holds c.tick-silent.new.self)
+    woke_for {H = g.row.H.Denot} {Job = g.row.H-Job.Denot} hub c.args.self.now c.args.conn c.in-Some.peer.now c.catch_up.new.peer
+    c.in-Some-wake.idle_peer (c.get_mut.follows.lender c.catch_up.new.peer) c.wake.new.self c.in-Some.ensures.value
+    (c.get_mut.follows.holds c.catch_up.new.peer)
     c.in-Some-wake.ensures.idle_peer (c.in-Some-wake.ensures.wakes refl)
-    (ticked {H = g.row.H.Denot} {Job = g.row.H-Job.Denot} c.idle_ticks.ensures c.tables_agree.ensures hub c.args.self.now.idle_set.clock
-    c.wake.new.self.clock c.in-Some-wake.idle_peer c.in-Some.peer.now c.tick-silent.new.self c.tick-silent.result c.wake.ensures.clock
-    (sym c.if-is_some.ensures) c.tick-silent.ensures.ticks)
-
-pub returns-else-is_some-clause-stands : goal.returns-else-is_some-clause-stands
-returns-else-is_some-clause-stands g c =
-    let hub = meaning g.H.Hub.begin_of g.H.Hub.step_of in
-    woke {H = g.row.H.Denot} {Job = g.row.H-Job.Denot} hub c.args.self.now c.args.conn c.in-Some.peer.now c.in-Some.peer.now c.in-Some-wake.idle_peer
-    (c.get_mut.follows.lender c.in-Some.peer.now) c.wake.new.self c.in-Some.ensures.value
-    (c.get_mut.follows.holds c.in-Some.peer.now)
-    c.in-Some-wake.ensures.idle_peer (c.in-Some-wake.ensures.wakes refl)
-    (away {H = g.row.H.Denot} {Job = g.row.H-Job.Denot} c.idle_ticks.ensures c.tables_agree.ensures hub c.args.self.now.idle_set.clock
-    c.in-Some-wake.idle_peer c.in-Some.peer.now (sym c.if-is_some.ensures))
-
-pub returns-else-is_some-clause-stands_for : goal.returns-else-is_some-clause-stands_for
-returns-else-is_some-clause-stands_for g c =
-    let hub = meaning g.H.Hub.begin_of g.H.Hub.step_of in
-    woke_for {H = g.row.H.Denot} {Job = g.row.H-Job.Denot} hub c.args.self.now c.args.conn c.in-Some.peer.now c.in-Some.peer.now c.in-Some-wake.idle_peer
-    (c.get_mut.follows.lender c.in-Some.peer.now) c.wake.new.self c.in-Some.ensures.value
-    (c.get_mut.follows.holds c.in-Some.peer.now)
-    c.in-Some-wake.ensures.idle_peer (c.in-Some-wake.ensures.wakes refl)
-    (away {H = g.row.H.Denot} {Job = g.row.H-Job.Denot} c.idle_ticks.ensures c.tables_agree.ensures hub c.args.self.now.idle_set.clock
-    c.in-Some-wake.idle_peer c.in-Some.peer.now (sym c.if-is_some.ensures))
+    (λ t h s. c.catch_up.ensures.stands t h
+    (subst (λ k. Sleeps {H = g.row.H.Denot} hub k c.in-Some-wake.idle_peer t c.in-Some.peer.now h) (sym c.wake.ensures.clock) s))
