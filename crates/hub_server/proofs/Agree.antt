@@ -21,7 +21,7 @@ use Rattle.hd_server.specs.Plans.{Setup, onto}
 use Rattle.hd_server.specs.Parts.{Each, IsOfAny, IsTick}
 use Rattle.hub_machine.specs.declared.machine.Machine.{Machine}
 use Rattle.hub_server.specs.declared.server.Server.{Server}
-use Rattle.hub_machine.specs.Machines.{IsKeptAs, IsStranger, StandsMachine, idle_peer_at, peer_at, settings_there}
+use Rattle.hub_machine.specs.Machines.{IsKeptAs, IsStranger, SaysAsSent, StandsMachine, idle_peer_at, peer_at, settings_there}
 use Rattle.hub_server.specs.Lanes.{Unsettled, is_at, poll_lane}
 use Rattle.hub_server.specs.Servers.{IsOrderly, Standing, caller_of, StandsFront}
 use Rattle.hub_server.proofs.Alike.{Alike, alike_noted, orderly_alike}
@@ -114,6 +114,7 @@ machine_agrees {H} hub m g h x s = let r : SameButMoves g h = x.rest in record {
   index = s.index;
   registry = subst (λ l. StandsRegistry m.registry l) (sym (registry_same g h x)) s.registry;
   peers = λ c t e. subst (λ ms. IsPeer hub t ms) (sym (x.moved c)) (s.peers c t (sym (r.settings c) ∙ e));
+  said = λ c t e. subst (λ ms. SaysAsSent t ms) (sym (x.moved c)) (s.said c t (sym (r.settings c) ∙ e));
   strangers = λ c e. let z : IsStranger c (work h) = s.strangers c (sym (r.settings c) ∙ e) in record {
     unknown = r.gone c ∙ z.unknown;
     unmoved = x.moved c ∙ z.unmoved;

@@ -34,7 +34,7 @@ pub record IsAsleep {H Job : Type 0} (m : Machine H Job) (c : ℕ) (w : List Mac
   pub settings : Settings
   pub idle_peers : idle_peer_at m c ≡ Some idle_peer
   pub there : settings_there c w ≡ Some settings
-  pub may : MaySleep m.idle_set.clock idle_peer settings (moves c w)
+  pub may : MaySleep m.idle_set.clock idle_peer.deadline settings (moves c w)
 
 pub asleep : {H Job : Type 0} (hub : Hub Job) (m : Machine H Job) (w : List MachineEvent) (c : ℕ) → StandsMachine {H = H} hub m w
     → is_some (idle_peer_at m c) ≡ true → IsAsleep {H = H} m c w

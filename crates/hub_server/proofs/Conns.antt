@@ -11,6 +11,7 @@ use Rattle.hd_server.specs.Lives.{numbers_to}
 use Rattle.hd_server.specs.Machine.{MachineEvent, greatest, has_gone, is_there, moves, settings_of}
 use Rattle.hp_peer.specs.declared.peer.Peer.{Peer}
 use Rattle.hub_machine.specs.declared.machine.Machine.{Machine}
+use Rattle.hub_machine.specs.declared.idle_set.IdleClock.{IdleClock}
 use Rattle.hub_machine.specs.declared.idle_set.IdlePeer.{IdlePeer}
 use Rattle.hub_machine.specs.Laws.{ConnectionsAreNumbered}
 use Rattle.hub_machine.specs.Machines.{IsKeptAs, StandsMachine, idle_peer_at, peer_at, settings_there}
@@ -140,7 +141,7 @@ there_if true (Some t) = refl
 there_if false None = refl
 there_if false (Some t) = refl
 
-kept_here : {H Job : Type 0} (hub : Hub Job) (clock : ℕ) (idle_peer : Option IdlePeer) (t : Option Settings) (h : List PeerEvent) (p : Option (Peer H Job))
+kept_here : {H Job : Type 0} (hub : Hub Job) (clock : IdleClock) (idle_peer : Option IdlePeer) (t : Option Settings) (h : List PeerEvent) (p : Option (Peer H Job))
     → IsKeptAs {H = H} hub clock idle_peer t h p → is_some t ≡ is_some p
 kept_here hub clock None None h None is = refl
 kept_here hub clock None None h (Some p) is = absurd is

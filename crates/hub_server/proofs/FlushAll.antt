@@ -18,7 +18,8 @@ use Rattle.hub_machine.specs.Laws.{ConnectionsAreNumbered}
 use Rattle.hub_machine.specs.Machines.{StandsMachine, is_awake_at}
 use Rattle.hub_server.specs.Lanes.{settled, Unsettled}
 use Rattle.hub_machine.specs.Rounds.{AreNumbers, AreRising}
-use Rattle.hub_server.specs.Servers.{IsRested, OfEach, Standing}
+use Rattle.hub_machine.specs.Sleeping.{IsUpWithCause, KeepsOthers}
+use Rattle.hub_server.specs.Servers.{IsLeftAlone, IsRested, OfEach, Standing, may_speak}
 use Rattle.hub_machine.specs.Spreads.{is_listed}
 use Rattle.hub_server.specs.Steps.{IsFlushed}
 use Rattle.hub_server.specs.Flushes.{FlushesOne}
@@ -26,10 +27,18 @@ use Rattle.hub_server.proofs.Alike.{Alike, alike_refl, alike_trans, rested_alike
 use Rattle.hub_server.proofs.Asleep.{IsMute, SaidByAll, awake_are, awake_there, said_by_all}
 use Rattle.hub_server.proofs.OntoAlike.{onto_append}
 use Rattle.hub_server.proofs.Listed.{listed_last}
+use Rattle.hub_server.proofs.Resting.{left_alone, speaks_alike, up_still}
 use Rattle.hub_server.proofs.Rising.{left_at, rising_rest}
 use Rattle.hub_server.proofs.FlushOthersUnchanged.{Unheard, all_alike, all_unheard, same_due, same_flushing, unheard_same, unheard_then}
 
 -- ---- lists of connections
+
+apart_back : (k c : ℕ) → (k == c) ≡ false → (c == k) ≡ false
+apart_back k c e = go (c == k) refl
+  where
+    go : (b : Bool) → (c == k) ≡ b → b ≡ false
+    go true f = absurd (true≢false (sym (eq-eqb k c (sym (eqb-true c k f))) ∙ e))
+    go false f = refl
 
 -- the first is less than each after it
 first_below : (c k : ℕ) (cs : List ℕ) → AreRising (c ∷ cs) → is_listed k cs ≡ true → c < k
@@ -85,10 +94,12 @@ pub record ToldSome {H Job : Type 0} (hub : Hub Job) (s : Setup) (before : List 
   pub stands : Standing hub s settled before v (onto (all_flushing s (moment h) done pieces h) h)
   pub rested : (k : ℕ) → is_listed k done ≡ true → IsRested k (onto (all_flushing s (moment h) done pieces h) h)
   pub others : (k : ℕ) → is_listed k done ≡ false → Alike k (onto (all_flushing s (moment h) done pieces h) h) h
+  pub cause : (k : ℕ) → is_listed k left ≡ false → may_speak k (onto (all_flushing s (moment h) done pieces h) h) ≡ true → IsUpWithCause hub v.machine k
 
 pub none_told : {H Job : Type 0} (hub : Hub Job) (s : Setup) (u : Unsettled) (before : List Said) (v : Server H Job) (conns : List ℕ) (h : List ServerEvent)
-    → AreRising conns → u ≡ settled → Standing {H = H} hub s u before v h → ToldSome {H = H} hub s before v conns conns h
-none_told {H} hub s u before v conns h rise is stands = record {
+    → AreRising conns → u ≡ settled → Standing {H = H} hub s u before v h → ((k : ℕ) → is_listed k conns ≡ false → IsUpWithCause {H = H} hub v.machine k)
+    → ToldSome {H = H} hub s before v conns conns h
+none_told {H} hub s u before v conns h rise is stands cause = record {
   done = [];
   pieces = [];
   are = refl;
@@ -98,6 +109,7 @@ none_told {H} hub s u before v conns h rise is stands = record {
   stands = subst (λ (w : Unsettled). Standing {H = H} hub s w before v h) is stands;
   rested = λ k e. absurd (true≢false (sym e));
   others = λ k e. alike_refl k h;
+  cause = λ k e speaks. cause k e;
 }
 
 -- one connection tells so
@@ -107,7 +119,8 @@ TellsFrom {H} hub old new c = OfEach {H = H} hub old (λ s u before h. u ≡ set
 
 module _ {H Job : Type 0} (parts : PartsOfTurns) (hub : Hub Job) (s : Setup) (before : List Said) (old new : Server H Job) (conns : List ℕ) (c : ℕ) (cs : List ℕ)
     (h : List ServerEvent)
-    (p : ToldSome {H = H} hub s before old conns (c ∷ cs) h) (there : has_peer c h ≡ true) (tells : TellsFrom {H = H} hub old new c) where
+    (p : ToldSome {H = H} hub s before old conns (c ∷ cs) h) (there : has_peer c h ≡ true) (tells : TellsFrom {H = H} hub old new c)
+    (keeps : KeepsOthers {H = H} old.machine new.machine c) where
   unlisted : is_listed c p.done ≡ false
   unlisted = go (is_listed c p.done) refl
     where
@@ -180,6 +193,23 @@ module _ {H Job : Type 0} (parts : PartsOfTurns) (hub : Hub Job) (s : Setup) (be
   below_each k d false true e f x l = subst (λ n. n < d) (sym (eqb-true k c f)) (first_below c d cs p.rise l)
   below_each k d false false e f x l = absurd (true≢false (sym x))
 
+  -- each that is left has cause to be awake, if what is due there can be said
+  cause_each : (k : ℕ) (b : Bool) → (k == c) ≡ b → is_listed k cs ≡ false
+      → may_speak k (onto (flushing s (moment h) c told.pieces h) (onto (all_flushing s (moment h) p.done p.pieces h) h)) ≡ true
+      → IsUpWithCause {H = H} hub new.machine k
+  cause_each k true e left speaks =
+      subst (λ n. IsUpWithCause {H = H} hub new.machine n) (sym (eqb-true k c e))
+      (subst (λ xs. may_speak c (onto xs (onto (all_flushing s (moment h) p.done p.pieces h) h)) ≡ true → IsUpWithCause {H = H} hub new.machine c) mine_is told.cause
+      (subst (λ n. may_speak n (onto (flushing s (moment h) c told.pieces h) (onto (all_flushing s (moment h) p.done p.pieces h) h)) ≡ true) (eqb-true k c e) speaks))
+  cause_each k false e left speaks =
+      up_still {H = H} {Job = Job} hub old.machine new.machine c k keeps (apart_back k c e)
+      (p.cause k (ap (λ (b : Bool). b || is_listed k cs) e ∙ left)
+      (sym (speaks_alike k (onto (flushing s (moment h) c told.pieces h) (onto (all_flushing s (moment h) p.done p.pieces h) h))
+      (onto (all_flushing s (moment h) p.done p.pieces h) h) (other k e)
+      (all_unheard c (flushing s (moment h) c told.pieces h) (onto (all_flushing s (moment h) p.done p.pieces h) h)
+      (parts.flushing_is s (moment h) c (socket_of c (notes h)) told.pieces h)))
+      ∙ speaks))
+
   told_more : ToldSome {H = H} hub s before new conns cs h
   told_more = record {
     done = p.done ++ c ∷ [];
@@ -193,14 +223,16 @@ module _ {H Job : Type 0} (parts : PartsOfTurns) (hub : Hub Job) (s : Setup) (be
         (subst (λ xs. Standing {H = H} hub s settled before new (onto xs (onto (all_flushing s (moment h) p.done p.pieces h) h))) mine_is told.stands);
     rested = λ k e. subst (λ f. IsRested k f) (sym after) (rested_each k (k == c) refl (sym (listed_last k c p.done) ∙ e));
     others = λ k e. subst (λ f. Alike k f h) (sym after) (others_each k (is_listed k p.done) (k == c) refl refl (sym (listed_last k c p.done) ∙ e));
+    cause = λ k e. subst (λ f. may_speak k f ≡ true → IsUpWithCause {H = H} hub new.machine k) (sym after) (cause_each k (k == c) refl e);
   }
 
 -- one more connection has told
 pub one_told : {H Job : Type 0} → PartsOfTurns → (hub : Hub Job) (s : Setup) (before : List Said) (old new : Server H Job) (conns : List ℕ) (i : ℕ) (h : List ServerEvent)
     → i < length conns → ((k : ℕ) → is_listed k conns ≡ true → has_peer k h ≡ true) → ToldSome {H = H} hub s before old conns (drop i conns) h
-    → TellsFrom {H = H} hub old new (get_or conns i 0) → ToldSome {H = H} hub s before new conns (drop (i + 1) conns) h
-one_told {H} {Job} parts hub s before old new conns i h l known p tells =
-    told_more {H = H} {Job = Job} parts hub s before old new conns c (drop (i + 1) conns) h q (known c (listed conns (q.done) q.are)) tells
+    → TellsFrom {H = H} hub old new (get_or conns i 0) → KeepsOthers {H = H} old.machine new.machine (get_or conns i 0)
+    → ToldSome {H = H} hub s before new conns (drop (i + 1) conns) h
+one_told {H} {Job} parts hub s before old new conns i h l known p tells keeps =
+    told_more {H = H} {Job = Job} parts hub s before old new conns c (drop (i + 1) conns) h q (known c (listed conns (q.done) q.are)) tells keeps
   where
     c : ℕ
     c = get_or conns i 0
@@ -229,6 +261,9 @@ all_told {H} {Job} law hub s before m v conns i h l stands numbers mute p = reco
   all_due = all.due;
   stands = subst (λ xs. Standing {H = H} hub s settled before v (onto xs h)) (sym is) p.stands;
   rested = λ c. subst (λ xs. IsRested c (onto xs h)) (sym is) (go c (is_listed c p.done) refl);
+  left_alone = λ c. subst (λ xs. IsLeftAlone {H = H} v.machine c (onto xs h)) (sym is)
+      (left_alone {H = H} {Job = Job} hub v.machine c (onto (all_flushing s (moment h) p.done p.pieces h) h) p.stands.machine
+      (p.cause c (ap (is_listed c) (drop_all i conns l))));
 }
   where
     done_are : p.done ≡ conns

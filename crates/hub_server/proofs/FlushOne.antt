@@ -23,21 +23,27 @@ use Rattle.hn_server_front.specs.Stands as stands
 use Rattle.hd_server.specs.Laws.{PartsOfTurns}
 use Rattle.hub_machine.specs.declared.machine.Machine.{Machine}
 use Rattle.hub_server.specs.declared.server.Server.{Server}
-use Rattle.hub_machine.specs.Machines.{OfConn, StandsMachine}
+use Rattle.hub_machine.specs.Machines.{IsIndexed, OfConn, StandsMachine, peer_at}
+use Rattle.hub_machine.specs.Sleeping.{IsUpWithCause}
 use Rattle.hub_server.specs.Connections.{Frees, IsKnown}
 use Rattle.hub_server.specs.Lanes.{Unsettled, settled}
-use Rattle.hub_server.specs.Servers.{IsOrderly, IsRested, OfEach, Standing, StandsFront}
+use Rattle.hub_server.specs.Servers.{IsOrderly, IsRested, OfEach, Standing, StandsFront, may_speak}
 use Rattle.hub_server.specs.Flushes.{FlushesOne, FlushesPoll}
 use Rattle.hub_server.proofs.LaneKept.{lane_kept, same_lane_note}
 use Rattle.hub_server.proofs.OntoAlike.{onto_append}
 use Rattle.hub_server.proofs.FlushSaid.{closed_is, gone_after, is_one, standing_rests, up_there}
 use Rattle.hub_server.proofs.FlushOthersUnchanged.{all_polls}
 use Rattle.hub_server.proofs.FrontNoted.{noted_front}
+use Rattle.hub_server.proofs.Resting.{unpolled_is_mute, up_gone}
 
 -- of what holds once all is well something else follows
 pub on_ok : {A E : Type 0} (r : Result A E) (P Q : Type 0) → (P → Q) → OnOk r P → OnOk r Q
 on_ok (Ok x) P Q f p = f p
 on_ok (Err e) P Q f p = tt
+
+pub on_ok_both : {A E : Type 0} (r : Result A E) (P Q R : Type 0) → (P → Q → R) → OnOk r P → OnOk r Q → OnOk r R
+on_ok_both (Ok x) P Q R f p q = f p q
+on_ok_both (Err e) P Q R f p q = tt
 
 -- ---- of a connection that is there a front tells what was noted
 
@@ -182,6 +188,9 @@ module _ {H Job : Type 0} (hub : Hub Job) (s : Setup) (before : List Said) (v : 
   rested_polling pieces = λ at off. absurd (both_ways (is_polling c (notes (onto (flushing_on s (moment h) c None pieces h) h))) off
       (all_polls c c (flushing_on s (moment h) c None pieces h) h (parts.flushing_is s (moment h) c None pieces h) polls))
 
+  polling_still : (pieces : List (List LinkFrame)) → is_polling c (notes (onto (flushing_on s (moment h) c None pieces h) h)) ≡ true
+  polling_still pieces = all_polls c c (flushing_on s (moment h) c None pieces h) h (parts.flushing_is s (moment h) c None pieces h) polls
+
   told_is : (o : Option (ℕ × ℕ)) (pieces : List (List LinkFrame)) → poll_of c (notes h) ≡ o
       → onto (flushing_on s (moment h) c None pieces h) h ≡ onto (flushing_some_poll s (moment h) c o (all_of pieces) h)
       (onto (ending (moment h) c h) h)
@@ -202,6 +211,10 @@ module _ {H Job : Type 0} (hub : Hub Job) (s : Setup) (before : List Said) (v : 
         due = subst (λ (p : Option (ℕ × ℕ)). AreDueOn s c None p [] h) (sym none) refl;
         stands = subst (λ (g : List ServerEvent). Standing {H = H} hub s settled before v g) (sym (told_is None [] none)) x;
         rested = rested_polling [];
+        cause = λ speaks. absurd (both_ways (may_speak c (onto (flushing_on s (moment h) c None [] h) h))
+            (unpolled_is_mute {H = H} {Job = Job} hub s settled before v c (onto (flushing_on s (moment h) c None [] h) h)
+            (subst (λ (g : List ServerEvent). Standing {H = H} hub s settled before v g) (sym (told_is None [] none)) x)
+            (polling_still []) (ap (λ (g : List ServerEvent). poll_of c (notes g)) (told_is None [] none) ∙ left.noted ∙ none)) speaks);
       }
 
   -- it holds one
@@ -226,6 +239,11 @@ module _ {H Job : Type 0} (hub : Hub Job) (s : Setup) (before : List Said) (v : 
             (subst (λ (xs : List ServerEvent). Standing {H = H} hub s settled before new (onto xs g))
             (left.same (held.lane, held.since) one.frames) one.stands);
         rested = rested_polling (one.frames ∷ []);
+        cause = subst (λ (k : List ServerEvent). may_speak c k ≡ true → IsUpWithCause {H = H} hub new.machine c)
+            (sym (told_is (Some (held.lane, held.since)) (one.frames ∷ []) some
+            ∙ ap (λ (fs : List LinkFrame). onto (flushing_poll s (moment h) c (held.lane, held.since) fs h) g) all))
+            (subst (λ (xs : List ServerEvent). may_speak c (onto xs g) ≡ true → IsUpWithCause {H = H} hub new.machine c)
+            (left.same (held.lane, held.since) one.frames) one.cause);
       }
 
 -- ---- one that neither stands on a socket nor polls
@@ -251,14 +269,15 @@ module _ {H Job : Type 0} (hub : Hub Job) (s : Setup) (u : Unsettled) (before : 
       ∙ ap (λ (z : Bool). onto (if z then removing_conn c h else []) h) e
 
   told_mute : (new : Server H Job) → Standing {H = H} hub s settled before new (onto (flushing_on s (moment h) c None [] h) h)
-      → IsRested c (onto (flushing_on s (moment h) c None [] h) h) → FlushesOne {H = H} hub s before new c (socket_of c (notes h))
-      (poll_of c (notes h)) h
-  told_mute new stood rested =
+      → IsRested c (onto (flushing_on s (moment h) c None [] h) h) → IsUpWithCause {H = H} hub new.machine c
+      → FlushesOne {H = H} hub s before new c (socket_of c (notes h)) (poll_of c (notes h)) h
+  told_mute new stood rested up =
       subst (λ (o : Option ℕ). FlushesOne {H = H} hub s before new c o (poll_of c (notes h)) h) (sym off) (record {
         pieces = [];
         due = subst (λ (p : Option (ℕ × ℕ)). AreDueOn s c None p [] h) (sym no_poll) refl;
         stands = stood;
         rested = rested;
+        cause = λ speaks. up;
       })
 
   -- it has lost its link, so nothing is due there
@@ -277,21 +296,24 @@ module _ {H Job : Type 0} (hub : Hub Job) (s : Setup) (u : Unsettled) (before : 
 
   pub mute_open : (m : Machine H Job) → r ≡ false
       → OfConn {H = H} hub v.machine c (λ w t k. due t.config (steps t k) ≡ None → StandsMachine {H = H} hub m w)
+      → (IsIndexed {H = H} v.machine → IsUpWithCause {H = H} hub m c)
       → FlushesOne {H = H} hub s before (record v { machine = m }) c (socket_of c (notes h)) (poll_of c (notes h)) h
-  mute_open m e rests =
+  mute_open m e rests up =
       let shut : has_closed c h ≡ false = sym (closed_is {H = H} {Job = Job} hub s settled before v c h x there r of) ∙ e in
       told_mute (record v { machine = m })
       (subst (λ g. Standing {H = H} hub s settled before (record v { machine = m }) g) (sym (mute_is false shut))
       (standing_rests {H = H} {Job = Job} hub s settled before v c h x there m nothing rests))
       (subst (λ g. IsRested c g) (sym (mute_is false shut)) (λ at quiet. up_there c h at shut))
+      (up x.machine.index)
 
   pub mute_closed : (new : Server H Job) → r ≡ true → OfEach {H = H} hub v (λ t w said g. IsKnown c g
-      → Frees {H = H} hub t w said new c g (onto (removing_conn c g) g))
+      → Frees {H = H} hub t w said new c g (onto (removing_conn c g) g)) → peer_at new.machine c ≡ None
       → FlushesOne {H = H} hub s before new c (socket_of c (notes h)) (poll_of c (notes h)) h
-  mute_closed new e frees =
+  mute_closed new e frees absent =
       let shut : has_closed c h ≡ true = sym (closed_is {H = H} {Job = Job} hub s settled before v c h x there r of) ∙ e in
       let freed : Frees {H = H} hub s settled before new c h (onto (removing_conn c h) h) =
       frees s settled before h x (is_one {H = H} {Job = Job} hub s settled before v c h x there).known in
       told_mute new (subst (λ g. Standing {H = H} hub s settled before new g) (sym (mute_is true shut)) freed.stands)
       (subst (λ g. IsRested c g) (sym (mute_is true shut))
       (λ at. absurd (both_ways (has_peer c (onto (removing_conn c h) h)) (gone_after c h h there) at)))
+      (up_gone {H = H} {Job = Job} hub new.machine c absent)

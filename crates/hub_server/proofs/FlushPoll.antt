@@ -2,7 +2,7 @@
 use Rattle.std.proofs.Common.{◌≡◌, ◌<◌, ◌≤◌, ℕ, ◌+◌, ◌-◌, Bool, true, false, ◌||◌, List, [], ◌∷◌, ◌++◌, Option, Some}
 use Rattle.std.proofs.Common.{refl, sym, ap, subst, ◌∙◌, ◌⊎◌, None, arith, inl, inr}
 use Rattle.std.specs.Prelude.{if◌then◌else◌, ◌&&◌, nat_le, option_map}
-use Rattle.std.proofs.lemmas.Bool.{eq-eqb, le-leb, leb-true, true≢false}
+use Rattle.std.proofs.lemmas.Bool.{both_ways, eq-eqb, le-leb, leb-true, true≢false}
 use Rattle.hw_lanes.specs.declared.http.Reply.{Reply}
 use Rattle.hd_delivery.specs.Due.{due}
 use Rattle.hd_delivery.specs.Frames.{LinkFrame}
@@ -17,15 +17,17 @@ use Rattle.hd_server.specs.Plans.{Setup, bare_reply, frames_reply, removing_conn
 use Rattle.hd_server.specs.Serves.{LendsUpTo, bytes_of, lending, flushing_poll}
 use Rattle.hub_machine.specs.declared.machine.Machine.{Machine}
 use Rattle.hub_server.specs.declared.server.Server.{Server}
-use Rattle.hub_machine.specs.Machines.{OfConn, StandsMachine}
+use Rattle.hub_machine.specs.Machines.{IsIndexed, OfConn, StandsMachine, peer_at}
+use Rattle.hub_machine.specs.Sleeping.{IsUpWithCause}
 use Rattle.hub_machine.specs.Traffic.{LendsSome, is_any}
 use Rattle.hub_server.specs.Connections.{Frees, IsKnown}
 use Rattle.hub_server.specs.Lanes.{Unsettled, is_at, lane_of, poll_lane, settled}
-use Rattle.hub_server.specs.Servers.{OfEach, Standing}
+use Rattle.hub_server.specs.Servers.{OfEach, Standing, may_speak}
 use Rattle.hub_server.specs.Flushes.{FlushesPoll}
 use Rattle.hub_server.proofs.OntoAlike.{onto_append}
 use Rattle.hub_server.proofs.FlushSaid.{Mild, SaidSome, closed_is, is_one, known_mild, letting_mild, mild_lends, mild_says, replying_mild}
 use Rattle.hub_server.proofs.FlushSaid.{replying_says, said_some, standing_rests}
+use Rattle.hub_server.proofs.Resting.{answered_none, answered_polls, unpolled_is_mute, up_gone}
 
 -- the poll is held on its lane
 lane_of_poll : (c lane since : ℕ) (n : List ConnectionEvent) → poll_of c n ≡ Some (lane, since) → poll_lane c n ≡ Some lane
@@ -41,6 +43,14 @@ at_poll lane c h there on =
     ∙ ap (λ (o : Option ℕ). is_this lane (socket_of c (notes h)) || is_this lane o) on
     ∙ ap (λ (b : Bool). is_this lane (socket_of c (notes h)) || b) (eq-eqb lane lane refl)
     ∙ or_true (is_this lane (socket_of c (notes h)))
+
+-- what is due at one whose poll was answered can't be said
+answered_is_mute : {H Job : Type 0} (hub : Hub Job) (s : Setup) (u : Unsettled) (before : List Said) (v : Server H Job) (c lane since now : ℕ)
+    (g : List ServerEvent) → Standing {H = H} hub s u before v (Notes (Answered c lane now) ∷ g) → poll_of c (notes g) ≡ Some (lane, since)
+    → may_speak c (Notes (Answered c lane now) ∷ g) ≡ false
+answered_is_mute {H} {Job} hub s u before v c lane since now g x held =
+    unpolled_is_mute {H = H} {Job = Job} hub s u before v c (Notes (Answered c lane now) ∷ g) x (answered_polls c lane now (notes g) since held)
+    (answered_none c lane now (notes g) since held)
 
 -- the reply that ends a poll leaves its connection as it was
 abbrev pub Answers : {H Job : Type 0} → Hub Job → Server H Job → Server H Job → ℕ → ℕ → Reply → Type 0
@@ -79,9 +89,20 @@ module _ {H Job : Type 0} (hub : Hub Job) (s : Setup) (u : Unsettled) (before : 
           onto_append (lending c (f ∷ fs) ++ replying lane (frames_reply (bytes_of s c (f ∷ fs) h)) h) (Notes (Answered c lane (moment h)) ∷ []) h
           ∙ ap (λ (g : List ServerEvent). Notes (Answered c lane (moment h)) ∷ g) (onto_append (lending c (f ∷ fs))
           (replying lane (frames_reply (bytes_of s c (f ∷ fs) h)) h) h) in
+          let words : Mild c (onto (replying lane reply mid) mid) mid = mild_says c (replying lane reply mid) mid (replying_says lane reply mid) in
           record {
             frames = f ∷ fs;
             due = due;
+            cause = subst (λ (g : List ServerEvent). may_speak c g ≡ true → IsUpWithCause {H = H} hub new.machine c) (sym told)
+                (subst (λ (r : Reply). may_speak c (Notes (Answered c lane (moment h)) ∷ onto (replying lane r h) mid) ≡ true
+                → IsUpWithCause {H = H} hub new.machine c) r
+                (subst (λ (xs : List ServerEvent). may_speak c (Notes (Answered c lane (moment h)) ∷ onto xs mid) ≡ true
+                → IsUpWithCause {H = H} hub new.machine c) (replying_mild c lane reply mid h mild)
+                (subst (λ (n : ℕ). may_speak c (Notes (Answered c lane n) ∷ onto (replying lane reply mid) mid) ≡ true
+                → IsUpWithCause {H = H} hub new.machine c) mild.clock
+                (λ speaks. absurd (both_ways (may_speak c (Notes (Answered c lane (moment mid)) ∷ onto (replying lane reply mid) mid))
+                (answered_is_mute {H = H} {Job = Job} hub s settled before new c lane since (moment mid) (onto (replying lane reply mid) mid) stood
+                (ap (poll_of c) words.noted ∙ ap (poll_of c) mild.noted ∙ held)) speaks)))));
             stands = subst (λ (g : List ServerEvent). Standing {H = H} hub s settled before new g) (sym told)
                 (subst (λ (r : Reply). Standing {H = H} hub s settled before new (Notes (Answered c lane (moment h)) ∷ onto
                 (replying lane r h) mid)) r
@@ -110,8 +131,9 @@ module _ {H Job : Type 0} (hub : Hub Job) (s : Setup) (u : Unsettled) (before : 
       → OfEach {H = H} hub (record v { machine = m }) (λ t w said g. w ≡ settled → (k : ℕ) → is_at lane k g ≡ true
       → Standing {H = H} hub t (lane_of (Some lane)) said mid (onto (replying lane reply g) g))
       → OfEach {H = H} hub mid (λ t w said g. IsKnown c g → Frees {H = H} hub t w said new c g (onto (removing_conn c g) g))
+      → peer_at new.machine c ≡ None
       → FlushesPoll {H = H} hub s before new c (lane, since) h
-  polls_closed r mid new reply e f shut is replies frees =
+  polls_closed r mid new reply e f shut is replies frees absent =
       let base : Standing {H = H} hub s settled before (record v { machine = m }) h = (bare_stands e).1 in
       let on : is_at lane c h ≡ true = at_poll lane c h there (lane_of_poll c lane since (notes h) held) in
       let g : List ServerEvent = onto (replying lane reply h) h in
@@ -134,6 +156,7 @@ module _ {H Job : Type 0} (hub : Hub Job) (s : Setup) (u : Unsettled) (before : 
         frames = [];
         due = (bare_stands e).0;
         stands = subst (λ (k : List ServerEvent). Standing {H = H} hub s settled before new k) (sym told) (freed.freed lane (inl refl) still);
+        cause = λ speaks. up_gone {H = H} {Job = Job} hub new.machine c absent;
       }
 
   -- or it was held as long as it may be
@@ -154,9 +177,16 @@ module _ {H Job : Type 0} (hub : Hub Job) (s : Setup) (u : Unsettled) (before : 
       (sym (closed_so r e shut) ∙ f)
       ∙ ap (λ (b : Bool). onto (if b then replying lane (bare_reply 200) h ++ Notes (Answered c lane (moment h)) ∷ [] else []) h) is_late
       ∙ onto_append (replying lane (bare_reply 200) h) (Notes (Answered c lane (moment h)) ∷ []) h in
+      let words : Mild c (onto (replying lane reply h) h) h = mild_says c (replying lane reply h) h (replying_says lane reply h) in
       record {
         frames = [];
         due = (bare_stands e).0;
+        cause = subst (λ (k : List ServerEvent). may_speak c k ≡ true → IsUpWithCause {H = H} hub new.machine c) (sym told)
+            (subst (λ (q : Reply). may_speak c (Notes (Answered c lane (moment h)) ∷ onto (replying lane q h) h) ≡ true
+            → IsUpWithCause {H = H} hub new.machine c) is
+            (λ speaks. absurd (both_ways (may_speak c (Notes (Answered c lane (moment h)) ∷ onto (replying lane reply h) h))
+            (answered_is_mute {H = H} {Job = Job} hub s settled before new c lane since (moment h) (onto (replying lane reply h) h) stood
+            (ap (poll_of c) words.noted ∙ held)) speaks)));
         stands = subst (λ (k : List ServerEvent). Standing {H = H} hub s settled before new k) (sym told)
             (subst (λ (q : Reply). Standing {H = H} hub s settled before new (Notes (Answered c lane (moment h)) ∷ onto
             (replying lane q h) h)) is stood);
@@ -166,8 +196,9 @@ module _ {H Job : Type 0} (hub : Hub Job) (s : Setup) (u : Unsettled) (before : 
   pub polls_on : (r : Bool) (late : ℕ) (rested : Machine H Job) → any ≡ false → r ≡ false → OfConn {H = H} hub m c (λ w t k. r ≡ is_shut t k)
       → late ≡ v.moment - since → late < held_for
       → OfConn {H = H} hub m c (λ w t k. due t.config (steps t k) ≡ None → StandsMachine {H = H} hub rested w)
+      → (IsIndexed {H = H} m → IsUpWithCause {H = H} hub rested c)
       → FlushesPoll {H = H} hub s before (record v { machine = rested }) c (lane, since) h
-  polls_on r late rested e f shut by short rests =
+  polls_on r late rested e f shut by short rests up =
       let base : Standing {H = H} hub s settled before (record v { machine = m }) h = (bare_stands e).1 in
       let clock : v.moment ≡ moment h = x.clock in
       let told : onto (flushing_poll s (moment h) c (lane, since) [] h) h ≡ h =
@@ -182,6 +213,7 @@ module _ {H Job : Type 0} (hub : Hub Job) (s : Setup) (u : Unsettled) (before : 
         stands = subst (λ (k : List ServerEvent). Standing {H = H} hub s settled before (record v { machine = rested }) k) (sym told)
             (standing_rests {H = H} {Job = Job} hub s settled before (record v { machine = m }) c h base there rested
             (nothing (bare_stands e).0) rests);
+        cause = λ speaks. up base.machine.index;
       }
     where
       nothing : (due (config_of c h) (history c h) ≡ None) ⊎ (most_before_last < 0) → due (config_of c h) (history c h) ≡ None

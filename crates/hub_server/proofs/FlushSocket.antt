@@ -21,17 +21,19 @@ use Rattle.hd_server.specs.Serves.{AreDueBy, AreNonempty, LendsAll, all_of, byte
 use Rattle.hub_machine.specs.declared.machine.Machine.{Machine}
 use Rattle.hub_server.specs.declared.lane.Lane.{Lane}
 use Rattle.hub_server.specs.declared.server.Server.{Server}
-use Rattle.hub_machine.specs.Machines.{OfConn, StandsMachine}
+use Rattle.hub_machine.specs.Machines.{IsIndexed, OfConn, StandsMachine, peer_at}
+use Rattle.hub_machine.specs.Sleeping.{IsUpWithCause}
 use Rattle.hub_machine.specs.Traffic.{IsServers, LendsDue, is_any}
 use Rattle.hub_server.specs.Connections.{Frees, IsKnown}
 use Rattle.hub_server.specs.Lanes.{HasLane, IsLane, Unsettled, is_at, poll_lane, settled}
-use Rattle.hub_server.specs.Servers.{IsRested, OfEach, Standing}
+use Rattle.hub_server.specs.Servers.{IsRested, OfEach, Standing, may_speak}
 use Rattle.hub_server.specs.Flushes.{FlushesOne, Writes}
 use Rattle.hub_server.proofs.LaneKept.{standing_shuts, standing_tells}
 use Rattle.hub_server.proofs.OntoAlike.{onto_append}
 use Rattle.hub_server.proofs.FlushLends.{lent_due}
 use Rattle.hub_server.proofs.FlushSaid.{Mild, SaidAll, closed_is, gone_after, is_one, known_mild, letting_mild, mild_lends, mild_says, mild_then}
 use Rattle.hub_server.proofs.FlushSaid.{said_all, shutting_mild, shutting_says, standing_rests, text_is, up_there, work_says, writing_says}
+use Rattle.hub_server.proofs.Resting.{full_is_mute, up_gone}
 use Rattle.hub_server.proofs.TickSteps.{begun_here}
 
 -- ---- what is written
@@ -141,14 +143,23 @@ module _ {H Job : Type 0} (hub : Hub Job) (s : Setup) (u : Unsettled) (before : 
       ∙ sym (ap (λ (b : Bool). b && not (has_closed c h)) (full_now kept true is e))
 
   -- what is due stays due
-  pub tells_withheld : u ≡ settled → is_withheld c lane h ≡ true → FlushesOne {H = H} hub s before v c (Some lane) (poll_of c (notes h)) h
-  tells_withheld calm full = record {
+  pub tells_withheld : u ≡ settled → socket_of c (notes h) ≡ Some lane → is_withheld c lane h ≡ true → FlushesOne {H = H} hub s before v c (Some lane) (poll_of c (notes h)) h
+  tells_withheld calm on full = record {
     pieces = [];
     due = subst (λ b. AreDueBy b c [] h) (sym full) refl;
     stands = subst (λ g. Standing {H = H} hub s settled before v g) (sym after) (subst (λ w. Standing {H = H} hub s w before v h) calm x);
     rested = subst (λ g. IsRested c g) (sym after) (λ at off. up_there c h at unclosed);
+    cause = subst (λ g. may_speak c g ≡ true → IsUpWithCause {H = H} hub v.machine c) (sym after)
+        (λ speaks. absurd (both_ways (may_speak c h) (full_is_mute c lane h on is_so) speaks));
   }
     where
+      is_so : is_full lane h ≡ true
+      is_so = go (is_full lane h) (has_closed c h) full
+        where
+          go : (a b : Bool) → (a && not b) ≡ true → a ≡ true
+          go true b e = refl
+          go false b e = absurd (true≢false (sym e))
+
       unclosed : has_closed c h ≡ false
       unclosed = go (is_full lane h) (has_closed c h) full
         where
@@ -189,8 +200,9 @@ module _ {H Job : Type 0} (hub : Hub Job) (s : Setup) (before : List Said) (v : 
   -- its end is open: it may rest, since nothing is due
   pub tells_open : (r : Bool) (m : Machine H Job) → r ≡ false → OfConn {H = H} hub v.machine c (λ k t ms. r ≡ is_shut t ms)
       → OfConn {H = H} hub v.machine c (λ k t ms. due t.config (steps t ms) ≡ None → StandsMachine {H = H} hub m k)
+      → (IsIndexed {H = H} v.machine → IsUpWithCause {H = H} hub m c)
       → FlushesOne {H = H} hub s before (record v { machine = m }) c (Some lane) (poll_of c (notes h)) h
-  tells_open r m e of rests = record {
+  tells_open r m e of rests up = record {
     pieces = w.pieces;
     due = due_now;
     stands = subst (λ g. Standing {H = H} hub s settled before (record v { machine = m }) g) (sym after)
@@ -198,6 +210,7 @@ module _ {H Job : Type 0} (hub : Hub Job) (s : Setup) (before : List Said) (v : 
         (mild.there ∙ there) m nothing rests);
     rested = subst (λ g. IsRested c g) (sym after)
         (λ at off. up_there c (onto (lending c (all_of w.pieces) ++ writing s c lane w.pieces h) h) at (mild.closed ∙ unclosed));
+    cause = λ speaks. up w.stands.machine.index;
   }
     where
       due_in : List MachineEvent → Option LinkFrame
@@ -226,14 +239,16 @@ module _ {H Job : Type 0} (hub : Hub Job) (s : Setup) (before : List Said) (v : 
   pub tells_closed : (r : Bool) (mid new : Server H Job) → r ≡ true → OfConn {H = H} hub v.machine c (λ k t ms. r ≡ is_shut t ms)
       → OfEach {H = H} hub v (λ t u said g. (k : ℕ) → is_at lane k g ≡ true → Standing {H = H} hub t u said mid (onto (shutting lane g) g))
       → OfEach {H = H} hub mid (λ t u said g. IsKnown c g → Frees {H = H} hub t u said new c g (onto (removing_conn c g) g))
+      → peer_at new.machine c ≡ None
       → FlushesOne {H = H} hub s before new c (Some lane) (poll_of c (notes h)) h
-  tells_closed r mid new e of shuts frees = record {
+  tells_closed r mid new e of shuts frees absent = record {
     pieces = w.pieces;
     due = due_now;
     stands = subst (λ g. Standing {H = H} hub s settled before new g) (sym after) freed.stands;
     rested = subst (λ g. IsRested c g) (sym after)
         (λ at. absurd (both_ways (has_peer c (onto (removing_conn c (onto (shutting lane base) base)) (onto (shutting lane base) base)))
         (gone_after c (onto (shutting lane base) base) (onto (shutting lane base) base) (both.there ∙ there)) at));
+    cause = λ speaks. up_gone {H = H} {Job = Job} hub new.machine c absent;
   }
     where
       base : List ServerEvent

@@ -63,3 +63,5 @@ pub mod OutcomeEvents
 pub mod FrontNoted
 pub mod OutcomeRoom
 pub mod OutcomeMade
+pub mod Polled
+pub mod Resting

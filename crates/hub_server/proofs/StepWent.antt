@@ -150,6 +150,7 @@ turns_to {H} law hub s before v w x at mid since now e h handled turned told dra
       };
       stands = told.stands;
       rested = told.rested;
+      left_alone = told.left_alone;
       went = record {
         asks = handled.went.asks ++ turned.on.asks;
         asked_are =
@@ -228,6 +229,7 @@ has_turn {H} hub s w x at since e h words turned same is =
         };
         rested = turned.rested;
       };
+      left_alone = turned.left_alone;
       tells = turned.stands.words ∙ ap (λ l. said h ++ l) (sym same);
       went = turned.went;
     })

@@ -265,15 +265,15 @@ module _ {H Job : Type 0} (law : ConnectionsAreNumbered) (hub : Hub Job) (s : Se
       by : (o : Option ℕ) → z.idle_peer.deadline ≡ o → ticking (moment h) c h ≡ resting (rests_at {H = H} m) (moment h) c
       by None f =
           let off : present_link (steps z.settings (moves c (work h))) ≡ None =
-          subst (λ o. IsDeadlineOf m.idle_set.clock o z.settings (moves c (work h))) f (let may = z.may in may.deadline) in
+          subst (λ o. IsDeadlineOf m.idle_set.clock.moment o z.settings (moves c (work h))) f (let may = z.may in may.deadline) in
           ap (λ (b : Bool). if b
           then (if is_silence (config_of c h) (moment h) (history c h) then silenced c (socket_of c (notes h)) (moment h) h
           else step c (Ticked (moment h)) ∷ []) else [])
           (ap (λ x. is_some (present_link x)) history_so ∙ ap is_some off)
           ∙ sym (ap (λ (o : Option ℕ). if is_some o then step c (Ticked (moment h)) ∷ [] else []) (deadline_so ∙ f))
       by (Some deadline) f =
-          let on : IsDeadlineOf m.idle_set.clock (Some deadline) z.settings (moves c (work h)) =
-          subst (λ o. IsDeadlineOf m.idle_set.clock o z.settings (moves c (work h))) f (let may = z.may in may.deadline) in
+          let on : IsDeadlineOf m.idle_set.clock.moment (Some deadline) z.settings (moves c (work h)) =
+          subst (λ o. IsDeadlineOf m.idle_set.clock.moment o z.settings (moves c (work h))) f (let may = z.may in may.deadline) in
           ap (λ (b : Bool). if b
           then (if is_silence (config_of c h) (moment h) (history c h) then silenced c (socket_of c (notes h)) (moment h) h
           else step c (Ticked (moment h)) ∷ []) else [])

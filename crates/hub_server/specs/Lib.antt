@@ -8,3 +8,4 @@ pub mod Connections
 pub mod Events
 pub mod Flushes
 pub mod Serving
+pub mod Laws

@@ -15,7 +15,7 @@ use Rattle.hd_server.specs.Plans.{Plan, Setup, expiries, onto, plan, questions}
 use Rattle.hd_server.specs.Serves.{AreAllDue, IsDraw, IsFed, IsTurn, all_flushing}
 use Rattle.hub_server.specs.declared.server.Server.{Server}
 use Rattle.hub_server.specs.Lanes.{IsNobodys, Unsettled, settled}
-use Rattle.hub_server.specs.Servers.{IsRested, Standing}
+use Rattle.hub_server.specs.Servers.{IsLeftAlone, IsRested, Standing}
 
 -- ---- what is around
 
@@ -123,6 +123,7 @@ pub record IsFlushed {H Job : Type 0} (hub : Hub Job) (s : Setup) (before : List
   pub all_due : AreAllDue s (connections (work h)) pieces h
   pub stands : Standing hub s settled before new (onto (all_flushing s (moment h) (connections (work h)) pieces h) h)
   pub rested : (c : ℕ) → IsRested c (onto (all_flushing s (moment h) (connections (work h)) pieces h) h)
+  pub left_alone : (c : ℕ) → IsLeftAlone new.machine c (onto (all_flushing s (moment h) (connections (work h)) pieces h) h)
 
 -- ---- a whole turn
 
@@ -131,6 +132,7 @@ pub record TurnsTo {H Job : Type 0} (hub : Hub Job) (s : Setup) (before : List S
   pub turn : IsTurn hub s e.now e.event h after
   pub stands : Standing hub s settled before new after
   pub rested : (c : ℕ) → IsRested c after
+  pub left_alone : (c : ℕ) → IsLeftAlone new.machine c after
   pub went : OutsideFollows at since h after
 
 -- between events
@@ -144,5 +146,6 @@ pub record HasTurn {H Job : Type 0} (hub : Hub Job) (s : Setup) (new : Server H 
   pub after : List ServerEvent
   pub turn : IsTurn hub s e.now e.event h after
   pub stands : StandsServer hub s new after
+  pub left_alone : (c : ℕ) → IsLeftAlone new.machine c after
   pub tells : said after ≡ said h ++ words
   pub went : OutsideFollows at since h after

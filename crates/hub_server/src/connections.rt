@@ -8,6 +8,8 @@ ghost use Rattle.hd_server.specs.Doings.{ServerEvent, Notes, has_peer, history, 
 ghost use Rattle.hd_server.specs.Lives as note;
 ghost use Rattle.hd_server.specs.Plans.{PendingRequest as OccasionMeant, Setup, closing, connecting, ending_held, ends_lane, removing_conn, losing, onto, replying, request_plan, standing_on};
 ghost use Rattle.hj_jobs.specs.Meaning.{meaning};
+ghost use Rattle.hub_machine.specs.Machines.{peer_at};
+ghost use Rattle.hub_machine.specs.Sleeping.{KeepsOthers};
 ghost use Rattle.hub_server.specs.Lanes.{conn_of, cut_of, is_at, lane_of, poll_lane, settled};
 ghost use Rattle.hd_delivery.specs.Histories.{present_link};
 ghost use Rattle.hub_server.specs.Servers.{OfEach, Standing};
@@ -179,6 +181,7 @@ impl<H: Hub> Server<H> {
         requires { IsReply reply }
         ensures answered { OnOk result (OfEach (meaning H.begin_of H.step_of) self.old (λ s u before h. u ≡ settled → has_peer conn h ≡ true → poll_lane conn (notes h) ≡ Given lane →
             Standing (meaning H.begin_of H.step_of) s u before self.new (Notes (note.Answered conn lane (moment h)) ∷ onto (replying lane reply h) h))) }
+        ensures machine { self.new.machine ≡ self.old.machine }
     {
         self.reply_held(lane, reply)?;
         self.front.answered(conn, lane, self.moment);
@@ -191,6 +194,7 @@ impl<H: Hub> Server<H> {
         requires { IsReply reply }
         ensures said { OnOk result (OfEach (meaning H.begin_of H.step_of) self.old (λ s u before h. u ≡ settled → (c : ℕ) → is_at lane c h ≡ true →
             Standing (meaning H.begin_of H.step_of) s (lane_of (Given lane)) before self.new (onto (replying lane reply h) h))) }
+        ensures machine { self.new.machine ≡ self.old.machine }
     {
         let ends = self.ends_held(lane, reply.status);
         self.words.answer(lane, reply, ends)?;
@@ -243,6 +247,8 @@ impl<H: Hub> Server<H> {
     pub(crate) fn remove_conn(&mut self, conn: u64)
         ensures gone { OfEach (meaning H.begin_of H.step_of) self.old (λ s u before h. IsKnown conn h →
             Frees (meaning H.begin_of H.step_of) s u before self.new conn h (onto (removing_conn conn h) h)) }
+        ensures absent { peer_at self.new.machine conn ≡ Absent }
+        ensures keeps { KeepsOthers self.old.machine self.new.machine conn }
     {
         self.detach_lanes(conn);
         self.callers.remove(&conn);
@@ -253,6 +259,7 @@ impl<H: Hub> Server<H> {
     /// The connection is on no lane any more.
     pub(crate) fn detach_lanes(&mut self, conn: u64)
         ensures left { OfEach (meaning H.begin_of H.step_of) self.old (λ s u before h. IsKnown conn h → HasLeft conn self.old self.new h) }
+        ensures machine { self.new.machine ≡ self.old.machine }
     {
         if let Some(lane) = self.front.lane(conn) {
             self.lanes.remove(&lane);

@@ -10,6 +10,7 @@ ghost use Rattle.hj_jobs.specs.Meaning.{meaning};
 ghost use Rattle.hd_server.specs.Numbers.{held_for};
 ghost use Rattle.hub_server.specs.Lanes.{is_at, settled};
 ghost use Rattle.hub_machine.specs.Machines.{OfConn, idle_peer_at};
+ghost use Rattle.hub_machine.specs.Sleeping.{KeepsOthers};
 ghost use Rattle.hub_server.specs.Servers.{OfEach, Standing};
 ghost use Rattle.hub_server.specs.Steps.{IsFlushed};
 ghost use Rattle.hub_server.specs.Flushes.{FlushesOne, FlushesPoll, Writes};
@@ -72,8 +73,9 @@ impl<H: Hub> Server<H> {
 
     /// The lane of a connection is to end, unless the door has shut it.
     pub(crate) fn shut(&mut self, lane: u64) -> Result<(), AllocError>
-        ensures { OnOk result (OfEach (meaning H.begin_of H.step_of) self.old (λ s u before h. (c : ℕ) → is_at lane c h ≡ true →
+        ensures shuts { OnOk result (OfEach (meaning H.begin_of H.step_of) self.old (λ s u before h. (c : ℕ) → is_at lane c h ≡ true →
             Standing (meaning H.begin_of H.step_of) s u before self.new (onto (shutting lane h) h))) }
+        ensures machine { self.new.machine ≡ self.old.machine }
     {
         if !self.may_shut(lane) {
             return Ok(());
@@ -112,8 +114,9 @@ impl<H: Hub> Server<H> {
 
     /// A connection says what is due, on its socket or by the poll that it holds. Of one that is closed nothing is kept once that is said.
     fn flush(&mut self, alloc: Global, conn: u64) -> Result<(), AllocError>
-        ensures { OnOk result (OfEach (meaning H.begin_of H.step_of) self.old (λ s u before h. u ≡ settled → has_peer conn h ≡ true →
+        ensures flushed { OnOk result (OfEach (meaning H.begin_of H.step_of) self.old (λ s u before h. u ≡ settled → has_peer conn h ≡ true →
             FlushesOne (meaning H.begin_of H.step_of) s before self.new conn (socket_of conn (notes h)) (poll_of conn (notes h)) h)) }
+        ensures keeps { OnOk result (KeepsOthers self.old.machine self.new.machine conn) }
     {
         match self.front.lane(conn) {
             Some(lane) => self.flush_socket(alloc, conn, lane),
@@ -130,8 +133,9 @@ impl<H: Hub> Server<H> {
 
     /// On a socket: in one message, if anything is due, unless the lane is full and the connection open.
     fn flush_socket(&mut self, alloc: Global, conn: u64, lane: u64) -> Result<(), AllocError>
-        ensures { OnOk result (OfEach (meaning H.begin_of H.step_of) self.old (λ s u before h. u ≡ settled → has_peer conn h ≡ true → socket_of conn (notes h) ≡ Given lane →
+        ensures flushed { OnOk result (OfEach (meaning H.begin_of H.step_of) self.old (λ s u before h. u ≡ settled → has_peer conn h ≡ true → socket_of conn (notes h) ≡ Given lane →
             FlushesOne (meaning H.begin_of H.step_of) s before self.new conn (Given lane) (poll_of conn (notes h)) h)) }
+        ensures keeps { OnOk result (KeepsOthers self.old.machine self.new.machine conn) }
     {
         if self.withholds(conn, lane) {
             return Ok(());
@@ -162,6 +166,7 @@ impl<H: Hub> Server<H> {
         ensures closed { IfOk result (λ closed. OfConn (meaning H.begin_of H.step_of) self.new.machine conn (λ w t k. closed ≡ is_shut t k)) }
         ensures written { OnOk result (OfEach (meaning H.begin_of H.step_of) self.old (λ s u before h. has_peer conn h ≡ true →
             Writes (meaning H.begin_of H.step_of) s u before self.new conn lane h)) }
+        ensures keeps { KeepsOthers self.old.machine self.new.machine conn }
     {
         let mut bytes = Vec::new(alloc);
         let spoken = self.machine.speak(conn, &mut bytes)?;
@@ -174,8 +179,9 @@ impl<H: Hub> Server<H> {
 
     /// Of one that polls: by the poll that it holds. If it is closed, its token is ending.
     fn flush_poller(&mut self, alloc: Global, conn: u64) -> Result<(), AllocError>
-        ensures { OnOk result (OfEach (meaning H.begin_of H.step_of) self.old (λ s u before h. u ≡ settled → has_peer conn h ≡ true → socket_of conn (notes h) ≡ Absent →
+        ensures flushed { OnOk result (OfEach (meaning H.begin_of H.step_of) self.old (λ s u before h. u ≡ settled → has_peer conn h ≡ true → socket_of conn (notes h) ≡ Absent →
             is_polling conn (notes h) ≡ true → FlushesOne (meaning H.begin_of H.step_of) s before self.new conn Absent (poll_of conn (notes h)) h)) }
+        ensures keeps { OnOk result (KeepsOthers self.old.machine self.new.machine conn) }
     {
         hd_server::parts_of_turns();
         self.end_poller(conn);
@@ -187,8 +193,9 @@ impl<H: Hub> Server<H> {
 
     /// The token of one that polls is ending, if it is closed.
     fn end_poller(&mut self, conn: u64)
-        ensures { OfEach (meaning H.begin_of H.step_of) self.old (λ s u before h. has_peer conn h ≡ true → is_polling conn (notes h) ≡ true →
+        ensures ends { OfEach (meaning H.begin_of H.step_of) self.old (λ s u before h. has_peer conn h ≡ true → is_polling conn (notes h) ≡ true →
             Standing (meaning H.begin_of H.step_of) s u before self.new (onto (ending (moment h) conn h) h)) }
+        ensures machine { self.new.machine ≡ self.old.machine }
     {
         if !self.machine.is_closed(conn) {
             return;
@@ -202,9 +209,10 @@ impl<H: Hub> Server<H> {
     /// The poll that is held ends with what is due; without any, if its connection is closed, of which nothing is kept then; or after 90,000
     /// milliseconds.
     fn flush_poll(&mut self, alloc: Global, conn: u64, held: Held) -> Result<(), AllocError>
-        ensures { OnOk result (OfEach (meaning H.begin_of H.step_of) self.old (λ s u before h. u ≡ settled → has_peer conn h ≡ true →
+        ensures flushed { OnOk result (OfEach (meaning H.begin_of H.step_of) self.old (λ s u before h. u ≡ settled → has_peer conn h ≡ true →
             poll_of conn (notes h) ≡ Given (held.lane, held.since) →
             FlushesPoll (meaning H.begin_of H.step_of) s before self.new conn (held.lane, held.since) h)) }
+        ensures keeps { OnOk result (KeepsOthers self.old.machine self.new.machine conn) }
     {
         let mut body = Vec::new(alloc);
         if self.machine.say_some(conn, &mut body)? {

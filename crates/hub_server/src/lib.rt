@@ -11,8 +11,8 @@
 //! write, and has a machine (`hub_machine`) do what their jobs want.
 //!
 //! Proved: a server stands for the list of all that it did, as `hd_server` defines it, and each event adds a turn of the definitions, which
-//! asks the keeper and the lots no more and no less than that; through a door each event is answered whole before the next is heard. That no
-//! function but `step` opens a ledger of spellings is read off the code.
+//! asks the keeper and the lots no more and no less than that; through a door each event is answered whole before the next is heard, and a door
+//! that failed is asked nothing more but to flush. That no function but `step` opens a ledger of spellings is read off the code.
 //!
 //! The crate doesn't know what a hub's methods do, what a machine does with what they hand up, how a keeper keeps, nor sockets and clocks.
 #![tactic(auto)]
@@ -21,12 +21,14 @@ mod connections;
 mod events;
 mod flush;
 mod lane;
+mod laws;
 mod requests;
 mod resend;
 mod server;
 mod serving;
 mod words;
 
+pub use laws::polls_are_bounded;
 pub use resend::{MOST_RESEND_BYTES, ResendLimits};
 pub use server::Server;
 pub use serving::{ServeFault, serve};

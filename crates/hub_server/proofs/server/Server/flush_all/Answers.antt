@@ -4,6 +4,7 @@ use Rattle.hj_jobs.specs.Meaning.{meaning}
 use Rattle.hub_machine.specs.Rounds.{AreNumbers}
 use Rattle.hub_server.proofs.Asleep.{asleep, awake_there, mute_asleep, not_awake, not_held}
 use Rattle.hub_server.proofs.FlushAll.{all_told, none_told, one_told}
+use Rattle.hub_server.proofs.Resting.{up_unawake}
 use Rattle.hub_server.proofs.server.Server.flush_all.Goals as goal
 
 pub loop-conn-init : goal.loop-conn-init
@@ -14,6 +15,7 @@ loop-conn-init g c s u before h x calm =
     let numbers = subst (λ cs. AreNumbers {H = g.row.H.Denot} v.machine cs) (sym c.deref-conn-items.ensures.value)
     (c.in_ok-conns.ensures (work h) stands.machine) in
     none_told {H = g.row.H.Denot} {Job = g.row.H-Job.Denot} hub s u before v c.deref-conn-items.result.now h numbers.rise calm stands
+    (λ k e. up_unawake {H = g.row.H.Denot} {Job = g.row.H-Job.Denot} hub v.machine k (numbers.are k ∙ e))
 
 pub loop-conn-preserved : goal.loop-conn-preserved
 loop-conn-preserved g c s u before h x calm =
@@ -25,7 +27,7 @@ loop-conn-preserved g c s u before h x calm =
     one_told {H = g.row.H.Denot} {Job = g.row.H-Job.Denot} c.parts_of_turns.ensures hub s before c.loop-conn.self c.flush.new.self c.deref-conn-items.result.now
     c.loop-conn.conn-index h c.loop-conn-test.true
     (λ k e. awake_there {H = g.row.H.Denot} {Job = g.row.H-Job.Denot} hub v.machine (work h) k stands.machine (numbers.are k ∙ e))
-    (c.loop-conn.invariant s u before h x calm) c.in_ok-flush.ensures
+    (c.loop-conn.invariant s u before h x calm) c.in_ok-flush.ensures.flushed c.in_ok-flush.ensures.keeps
 
 pub returns : goal.returns
 returns g c s u before h x calm =

@@ -27,7 +27,7 @@ returns g c = record {
             (subst (λ l. Standing {H = g.row.H.Denot} {Job = g.row.H-Job.Denot} hub s settled before w.shut.new.self
             (onto (shutting_some l h) h))
             (sym w.in-Some.is)
-            (w.in_ok-shut.ensures s settled before h st conn (at_socket w.in-Some.older conn h
+            (w.in_ok-shut.ensures.shuts s settled before h st conn (at_socket w.in-Some.older conn h
             (on_socket_there conn w.in-Some.older h (st.orderly conn) can.known.held (sym socket ∙ w.in-Some.is)) (sym socket ∙ w.in-Some.is))))
         | in_default w ↦
             subst (λ v. Standing {H = g.row.H.Denot} {Job = g.row.H-Job.Denot} hub s settled before v (onto (shutting_some older h) h))
