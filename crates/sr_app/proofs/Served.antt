@@ -1,6 +1,7 @@
 -- How serving ends, by what it wrote, heard and asked.
 use Rattle.std.proofs.Common.{◌≡◌, ◌⊎◌, ℕ, true, inl, inr, ⊎_elim, List, [], Option, Result, Ok, Err, refl, sym, subst, ◌∙◌}
 use Rattle.std.specs.Io.KnownBytes.{Appends}
+use Rattle.hw_door.specs.DoorCalls.{DoorCall}
 use Rattle.sr_check.specs.Stream.{IsTouchedByBytesAlone}
 use Rattle.sr_words.specs.declared.commands.Command.{Command}
 use Rattle.sr_words.specs.declared.commands.Command.TheVariants.{Replay, Soak, Check, Convert, Serve}
@@ -16,10 +17,10 @@ use Rattle.sr_app.proofs.Told.{bytes_of, appended_nothing, text_is_told}
 
 -- ---- what was written
 
-ends_by : (asked : Serving) (b n : serve.Environment) (input : Option (List ℕ)) (faults : ℕ) (result : Result Unit ServeError)
-    → serve.Ends asked.base asked.resend asked.live asked.turns b n result
+ends_by : (asked : Serving) (Goes : List DoorCall → Type 0) (b n : serve.Environment) (input : Option (List ℕ)) (faults : ℕ) (result : Result Unit ServeError)
+    → serve.Ends asked.base asked.resend asked.live asked.turns Goes b n result
     → Ends serving (status_of_end result) (input_output input faults b.holds b.sink_faults) (input_output input faults n.holds n.sink_faults)
-ends_by asked b n input faults (Ok done) ends = record {
+ends_by asked Goes b n input faults (Ok done) ends = record {
   done = λ is. (tt, (bytes_of input, serving_line ends.0.rows, text_is_told input, (ends.0.rows, refl), ends.0.line));
   usage = λ is. cc;
   refused = λ is. cc;
@@ -29,7 +30,7 @@ ends_by asked b n input faults (Ok done) ends = record {
   served = λ is. refl;
   reads = refl;
 }
-ends_by asked b n input faults (Err end.Door) ends = record {
+ends_by asked Goes b n input faults (Err end.Door) ends = record {
   done = λ is. cc;
   usage = λ is. cc;
   refused = λ is. cc;
@@ -39,7 +40,7 @@ ends_by asked b n input faults (Err end.Door) ends = record {
   served = λ is. refl;
   reads = refl;
 }
-ends_by asked b n input faults (Err end.Keeper) ends = record {
+ends_by asked Goes b n input faults (Err end.Keeper) ends = record {
   done = λ is. cc;
   usage = λ is. cc;
   refused = λ is. cc;
@@ -49,7 +50,7 @@ ends_by asked b n input faults (Err end.Keeper) ends = record {
   served = λ is. refl;
   reads = refl;
 }
-ends_by asked b n input faults (Err end.Write) ends = record {
+ends_by asked Goes b n input faults (Err end.Write) ends = record {
   done = λ is. cc;
   usage = λ is. cc;
   refused = λ is. cc;
@@ -60,7 +61,7 @@ ends_by asked b n input faults (Err end.Write) ends = record {
   served = λ is. refl;
   reads = refl;
 }
-ends_by asked b n input faults (Err end.NoMemory) (inl (nothing, kept), whole, heard) = record {
+ends_by asked Goes b n input faults (Err end.NoMemory) (inl (nothing, kept), whole, heard) = record {
   done = λ is. cc;
   usage = λ is. cc;
   refused = λ is. cc;
@@ -71,7 +72,7 @@ ends_by asked b n input faults (Err end.NoMemory) (inl (nothing, kept), whole, h
   served = λ is. refl;
   reads = refl;
 }
-ends_by asked b n input faults (Err end.NoMemory) (inr some, whole, heard) = record {
+ends_by asked Goes b n input faults (Err end.NoMemory) (inr some, whole, heard) = record {
   done = λ is. cc;
   usage = λ is. cc;
   refused = λ is. cc;
@@ -82,63 +83,63 @@ ends_by asked b n input faults (Err end.NoMemory) (inr some, whole, heard) = rec
   reads = refl;
 }
 
-pub serving_ends : (asked : Serving) (status : Status) (b n : serve.Environment) (input : Option (List ℕ)) (faults : ℕ) → EndsServing asked status b n
+pub serving_ends : (asked : Serving) (status : Status) (Goes : List DoorCall → Type 0) (b n : serve.Environment) (input : Option (List ℕ)) (faults : ℕ) → EndsServing asked status Goes b n
     → Ends serving status (input_output input faults b.holds b.sink_faults) (input_output input faults n.holds n.sink_faults)
-serving_ends asked status b n input faults ends =
+serving_ends asked status Goes b n input faults ends =
     subst (λ s. Ends serving s (input_output input faults b.holds b.sink_faults) (input_output input faults n.holds n.sink_faults)) (sym ends.1)
-    (ends_by asked b n input faults ends.0 ends.2)
+    (ends_by asked Goes b n input faults ends.0 ends.2)
 
 -- ---- faults
 
-sink_kept : (asked : Serving) (b n : serve.Environment) (result : Result Unit ServeError) → serve.Ends asked.base asked.resend asked.live asked.turns b n result
+sink_kept : (asked : Serving) (Goes : List DoorCall → Type 0) (b n : serve.Environment) (result : Result Unit ServeError) → serve.Ends asked.base asked.resend asked.live asked.turns Goes b n result
     → (status_of_end result ≡ WriteFault → ⊥) → n.sink_faults ≡ b.sink_faults
-sink_kept asked b n (Ok done) ends differ = ends.1
-sink_kept asked b n (Err end.Door) ends differ = ends.1
-sink_kept asked b n (Err end.Keeper) ends differ = ends.1
-sink_kept asked b n (Err end.Write) ends differ = absurd (differ refl)
-sink_kept asked b n (Err end.NoMemory) ends differ = ends.1
+sink_kept asked Goes b n (Ok done) ends differ = ends.1
+sink_kept asked Goes b n (Err end.Door) ends differ = ends.1
+sink_kept asked Goes b n (Err end.Keeper) ends differ = ends.1
+sink_kept asked Goes b n (Err end.Write) ends differ = absurd (differ refl)
+sink_kept asked Goes b n (Err end.NoMemory) ends differ = ends.1
 
-door_kept : (asked : Serving) (b n : serve.Environment) (result : Result Unit ServeError) → serve.Ends asked.base asked.resend asked.live asked.turns b n result
+door_kept : (asked : Serving) (Goes : List DoorCall → Type 0) (b n : serve.Environment) (result : Result Unit ServeError) → serve.Ends asked.base asked.resend asked.live asked.turns Goes b n result
     → (status_of_end result ≡ DoorFault → ⊥) → n.door_faults ≡ b.door_faults
-door_kept asked b n (Ok done) ends differ = ends.2
-door_kept asked b n (Err end.Door) ends differ = absurd (differ refl)
-door_kept asked b n (Err end.Keeper) ends differ = ends.2
-door_kept asked b n (Err end.Write) ends differ = ends.1
-door_kept asked b n (Err end.NoMemory) ends differ = ends.2
+door_kept asked Goes b n (Ok done) ends differ = ends.2
+door_kept asked Goes b n (Err end.Door) ends differ = absurd (differ refl)
+door_kept asked Goes b n (Err end.Keeper) ends differ = ends.2
+door_kept asked Goes b n (Err end.Write) ends differ = ends.1
+door_kept asked Goes b n (Err end.NoMemory) ends differ = ends.2
 
-pub serving_sink_kept : (asked : Serving) (status : Status) (b n : serve.Environment) → EndsServing asked status b n
+pub serving_sink_kept : (asked : Serving) (status : Status) (Goes : List DoorCall → Type 0) (b n : serve.Environment) → EndsServing asked status Goes b n
     → (status ≡ WriteFault → ⊥) → n.sink_faults ≡ b.sink_faults
-serving_sink_kept asked status b n ends differ = sink_kept asked b n ends.0 ends.2 (λ is. differ (ends.1 ∙ is))
+serving_sink_kept asked status Goes b n ends differ = sink_kept asked Goes b n ends.0 ends.2 (λ is. differ (ends.1 ∙ is))
 
-pub serving_door_kept : (asked : Serving) (status : Status) (b n : serve.Environment) → EndsServing asked status b n
+pub serving_door_kept : (asked : Serving) (status : Status) (Goes : List DoorCall → Type 0) (b n : serve.Environment) → EndsServing asked status Goes b n
     → (status ≡ DoorFault → ⊥) → n.door_faults ≡ b.door_faults
-serving_door_kept asked status b n ends differ = door_kept asked b n ends.0 ends.2 (λ is. differ (ends.1 ∙ is))
+serving_door_kept asked status Goes b n ends differ = door_kept asked Goes b n ends.0 ends.2 (λ is. differ (ends.1 ∙ is))
 
 -- ---- the output is touched by bytes alone
 
 line_is_some : (rows : ℕ) → serving_line rows ≡ [] → ⊥
 line_is_some rows none = cc
 
-touched_by : {K : Type 0} (holds : K → Option (List ℕ)) (old new : K) (asked : Serving) (b n : serve.Environment) (result : Result Unit ServeError)
-    → b.holds ≡ holds old → n.holds ≡ holds new → serve.Ends asked.base asked.resend asked.live asked.turns b n result
+touched_by : {K : Type 0} (holds : K → Option (List ℕ)) (old new : K) (asked : Serving) (Goes : List DoorCall → Type 0) (b n : serve.Environment) (result : Result Unit ServeError)
+    → b.holds ≡ holds old → n.holds ≡ holds new → serve.Ends asked.base asked.resend asked.live asked.turns Goes b n result
     → (status_of_end result ≡ KeeperFault → new ≡ old)
     → (status_of_end result ≡ NoMemory → (new ≡ old) ⊎ ((rows : ℕ) × Appends (holds old) (holds new) (serving_line rows)))
     → (status_of_end result ≡ WriteFault → ⊥) → IsTouchedByBytesAlone holds old new
-touched_by holds old new asked b n (Ok done) before now ends keeper memory differ =
+touched_by holds old new asked Goes b n (Ok done) before now ends keeper memory differ =
     inr (serving_line ends.0.rows, line_is_some ends.0.rows, rw (sym before) rw (sym now) ends.0.line)
-touched_by holds old new asked b n (Err end.Door) before now ends keeper memory differ =
+touched_by holds old new asked Goes b n (Err end.Door) before now ends keeper memory differ =
     inr (serving_line ends.0.rows, line_is_some ends.0.rows, rw (sym before) rw (sym now) ends.0.line)
-touched_by holds old new asked b n (Err end.Keeper) before now ends keeper memory differ = inl (keeper refl)
-touched_by holds old new asked b n (Err end.Write) before now ends keeper memory differ = absurd (differ refl)
-touched_by holds old new asked b n (Err end.NoMemory) before now ends keeper memory differ =
+touched_by holds old new asked Goes b n (Err end.Keeper) before now ends keeper memory differ = inl (keeper refl)
+touched_by holds old new asked Goes b n (Err end.Write) before now ends keeper memory differ = absurd (differ refl)
+touched_by holds old new asked Goes b n (Err end.NoMemory) before now ends keeper memory differ =
     ⊎_elim (λ same. inl same) (λ some. inr (serving_line some.0, line_is_some some.0, some.1)) (memory refl)
 
-pub serving_touches : {K : Type 0} (holds : K → Option (List ℕ)) (old new : K) (asked : Serving) (status : Status) (b n : serve.Environment)
-    → b.holds ≡ holds old → n.holds ≡ holds new → EndsServing asked status b n → (status ≡ KeeperFault → new ≡ old)
+pub serving_touches : {K : Type 0} (holds : K → Option (List ℕ)) (old new : K) (asked : Serving) (status : Status) (Goes : List DoorCall → Type 0) (b n : serve.Environment)
+    → b.holds ≡ holds old → n.holds ≡ holds new → EndsServing asked status Goes b n → (status ≡ KeeperFault → new ≡ old)
     → (status ≡ NoMemory → (new ≡ old) ⊎ ((rows : ℕ) × Appends (holds old) (holds new) (serving_line rows)))
     → (status ≡ WriteFault → ⊥) → IsTouchedByBytesAlone holds old new
-serving_touches holds old new asked status b n before now ends keeper memory differ =
-    touched_by holds old new asked b n ends.0 before now ends.2 (λ is. keeper (ends.1 ∙ is)) (λ is. memory (ends.1 ∙ is)) (λ is. differ (ends.1 ∙ is))
+serving_touches holds old new asked status Goes b n before now ends keeper memory differ =
+    touched_by holds old new asked Goes b n ends.0 before now ends.2 (λ is. keeper (ends.1 ∙ is)) (λ is. memory (ends.1 ∙ is)) (λ is. differ (ends.1 ∙ is))
 
 -- ---- who serves
 

@@ -7,6 +7,7 @@ use Rattle.hd_facts.specs.Unique.{IsTheOne}
 use Rattle.hd_facts.specs.Writes.{Writes, WritesPart, WritesOfRead}
 use Rattle.sr_app.specs.declared.run.Status.{Status}
 use Rattle.sr_app.specs.declared.run.Status.TheVariants.{Done, Usage, Refused, ReadFault, WriteFault, DoorFault, KeeperFault, NoMemory}
+use Rattle.hw_door.specs.DoorCalls.{DoorCall}
 use Rattle.sr_script.specs.Script.{Program, Parses, IsRefusedAt, refusal_line, most_script}
 use Rattle.sr_replay.specs.Report.{IsReportOf}
 use Rattle.sr_soak.specs.declared.totals.Totals.{Totals}
@@ -256,6 +257,6 @@ status_of_end (Ok done) = Done
 status_of_end (Err error) = status_of_error error
 
 -- what serving did that ended with this status
-abbrev pub EndsServing : Serving → Status → serve.Environment → serve.Environment → Type 0
-EndsServing asked status before now =
-    (result : Result Unit ServeError) × (status ≡ status_of_end result) × serve.Ends asked.base asked.resend asked.live asked.turns before now result
+abbrev pub EndsServing : Serving → Status → (List DoorCall → Type 0) → serve.Environment → serve.Environment → Type 0
+EndsServing asked status Goes before now =
+    (result : Result Unit ServeError) × (status ≡ status_of_end result) × serve.Ends asked.base asked.resend asked.live asked.turns Goes before now result

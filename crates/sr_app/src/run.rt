@@ -232,10 +232,10 @@ fn run_serve<K: Sink, D: Door, R: Keeper, L: Lots>(
     keeper: &mut R,
     lots: &mut L,
 ) -> Status
-    ensures serves { EndsServing serving result
-        (environment (K.holds out.old) (K.faults out.old) (D.trace door.old) (D.moment door.old) (D.faults door.old)
+    ensures serves { EndsServing serving result (λ calls. D.Goes door.old calls door.new)
+        (environment (K.holds out.old) (K.faults out.old) (D.moment door.old) (D.faults door.old)
         (outside (R.holds keeper.old) (R.answers keeper.old) (R.faults keeper.old) (L.drawn lots.old) (L.faults lots.old)))
-        (environment (K.holds out.new) (K.faults out.new) (D.trace door.new) (D.moment door.new) (D.faults door.new)
+        (environment (K.holds out.new) (K.faults out.new) (D.moment door.new) (D.faults door.new)
         (outside (R.holds keeper.new) (R.answers keeper.new) (R.faults keeper.new) (L.drawn lots.new) (L.faults lots.new))) }
     ensures unwritten { result ≡ Status.KeeperFault → out.new ≡ out.old }
     ensures unheard { (result ≡ Status.KeeperFault) ⊎ (result ≡ Status.WriteFault) → (door.new ≡ door.old) × (lots.new ≡ lots.old) }
@@ -277,10 +277,10 @@ fn carry_out<S: Source, K: Sink, D: Door, R: Keeper, L: Lots>(
     ensures touched { result ≢ Status.WriteFault → IsTouchedByBytesAlone K.holds out.old out.new }
     ensures untouched { WritesOnce command → (result ≡ Status.ReadFault) ⊎ (result ≡ Status.NoMemory) → out.new ≡ out.old }
     ensures unread { ReadsNothing command → input.new ≡ input.old }
-    ensures serves { (serving : Serving) → command ≡ Serve serving → EndsServing serving result
-        (environment (K.holds out.old) (K.faults out.old) (D.trace door.old) (D.moment door.old) (D.faults door.old)
+    ensures serves { (serving : Serving) → command ≡ Serve serving → EndsServing serving result (λ calls. D.Goes door.old calls door.new)
+        (environment (K.holds out.old) (K.faults out.old) (D.moment door.old) (D.faults door.old)
         (outside (R.holds keeper.old) (R.answers keeper.old) (R.faults keeper.old) (L.drawn lots.old) (L.faults lots.old)))
-        (environment (K.holds out.new) (K.faults out.new) (D.trace door.new) (D.moment door.new) (D.faults door.new)
+        (environment (K.holds out.new) (K.faults out.new) (D.moment door.new) (D.faults door.new)
         (outside (R.holds keeper.new) (R.answers keeper.new) (R.faults keeper.new) (L.drawn lots.new) (L.faults lots.new))) }
     ensures unwritten { result ≡ Status.KeeperFault → out.new ≡ out.old }
     ensures unheard { ServesNothing command ⊎ (result ≡ Status.KeeperFault) ⊎ (result ≡ Status.WriteFault)
@@ -311,8 +311,8 @@ fn carry_out<S: Source, K: Sink, D: Door, R: Keeper, L: Lots>(
 /// | 6 | `serve`: the keeper failed when it was asked how many rows there are; nothing was written or heard |
 /// | 7 | out of memory; nothing was written but what is written of some frames that were read, or the line with which `serve` begins |
 ///
-/// A fault of the input ends it with 3 and one of the output with 4: none is passed over. One of the door ends it with 5; that nothing more
-/// is heard after it is not in a clause. A fault of the keeper at any other question, or of the lots, ends nothing, but that memory may be
+/// A fault of the input ends it with 3 and one of the output with 4: none is passed over. One of the door ends it with 5: after the first call of
+/// the door that failed it is only flushed. A fault of the keeper at any other question, or of the lots, ends nothing, but that memory may be
 /// out then.
 pub fn run<S: Source, K: Sink, D: Door, R: Keeper, L: Lots>(
     alloc: Global,
@@ -341,10 +341,10 @@ pub fn run<S: Source, K: Sink, D: Door, R: Keeper, L: Lots>(
 
     // What `serve` did, by its status: so 5 comes only if the door's count rose, and 6 only if the keeper's did at the first question.
     ensures serves { (serving : Serving) → Asks words.now (Serve serving) → (status : Status) × (result ≡ code_of status)
-        × EndsServing serving status
-        (environment (K.holds out.old) (K.faults out.old) (D.trace door.old) (D.moment door.old) (D.faults door.old)
+        × EndsServing serving status (λ calls. D.Goes door.old calls door.new)
+        (environment (K.holds out.old) (K.faults out.old) (D.moment door.old) (D.faults door.old)
         (outside (R.holds keeper.old) (R.answers keeper.old) (R.faults keeper.old) (L.drawn lots.old) (L.faults lots.old)))
-        (environment (K.holds out.new) (K.faults out.new) (D.trace door.new) (D.moment door.new) (D.faults door.new)
+        (environment (K.holds out.new) (K.faults out.new) (D.moment door.new) (D.faults door.new)
         (outside (R.holds keeper.new) (R.answers keeper.new) (R.faults keeper.new) (L.drawn lots.new) (L.faults lots.new))) }
     ensures serve_fault { (result ≡ 5) ⊎ (result ≡ 6) → (serving : Serving) × Asks words.now (Serve serving) }
     ensures door_unfailed { result ≢ 5 → D.faults door.new ≡ D.faults door.old }

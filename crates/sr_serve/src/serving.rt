@@ -99,17 +99,23 @@ pub fn serve_hub<K: Sink, D: Door, R: Keeper, L: Lots>(
     keeper: &mut R,
     lots: &mut L,
 ) -> Result<(), ServeError>
-    ensures ends { Ends base resend live turns
-        (environment (K.holds out.old) (K.faults out.old) (D.trace door.old) (D.moment door.old) (D.faults door.old)
+    ensures ends { Ends base resend live turns (λ calls. D.Goes door.old calls door.new)
+        (environment (K.holds out.old) (K.faults out.old) (D.moment door.old) (D.faults door.old)
         (outside (R.holds keeper.old) (R.answers keeper.old) (R.faults keeper.old) (L.drawn lots.old) (L.faults lots.old)))
-        (environment (K.holds out.new) (K.faults out.new) (D.trace door.new) (D.moment door.new) (D.faults door.new)
+        (environment (K.holds out.new) (K.faults out.new) (D.moment door.new) (D.faults door.new)
         (outside (R.holds keeper.new) (R.answers keeper.new) (R.faults keeper.new) (L.drawn lots.new) (L.faults lots.new)))
         result }
     ensures unwritten { result ≡ Err end.Keeper → out.new ≡ out.old }
     ensures no_memory { result ≡ Err end.NoMemory → (out.new ≡ out.old) ⊎ ((rows : ℕ) × Appends (K.holds out.old) (K.holds out.new) (serving_line rows)) }
     ensures unheard { (result ≡ Err end.Keeper) ⊎ (result ≡ Err end.Write) → (door.new ≡ door.old) × (lots.new ≡ lots.old) }
 {
-    hd_delivery::delivery_over_bytes();
+    // Each connection is a side that delivers: what its end sent is read as it was sent.
+    hd_delivery::delivery_as_sent();
+    hd_delivery::facts_hold();
+    hd_delivery::fed_is_unseen();
+    hd_delivery::sent_can_be_sent();
+    hd_delivery::worlds_are_histories();
+    he_wire::wire_is_faithful();
     let rows = keeper.rows()?;
     let mut server = Server::start(alloc, base, resend, live)?;
     tell_rows(alloc, rows, out)?;

@@ -16,15 +16,15 @@ returns-in-Convert-clause-ends g c = rw c.in-Convert.is c.run_task-in-Convert.en
 
 pub returns-in-Serve-clause-ends : goal.returns-in-Serve-clause-ends
 returns-in-Serve-clause-ends g c = rw c.in-Serve.is
-    (serving_ends c.in-Serve.serving _ _ _ (g.S.Source.left c.args.input.now) (g.S.Source.faults c.args.input.now) c.run_serve.ensures.serves)
+    (serving_ends c.in-Serve.serving _ _ _ _ (g.S.Source.left c.args.input.now) (g.S.Source.faults c.args.input.now) c.run_serve.ensures.serves)
 
 pub returns-in-Serve-clause-faults : goal.returns-in-Serve-clause-faults
 returns-in-Serve-clause-faults g c =
-    record { source = λ differ. refl; sink = λ differ. serving_sink_kept c.in-Serve.serving _ _ _ c.run_serve.ensures.serves differ }
+    record { source = λ differ. refl; sink = λ differ. serving_sink_kept c.in-Serve.serving _ _ _ _ c.run_serve.ensures.serves differ }
 
 pub returns-in-Serve-clause-touched : goal.returns-in-Serve-clause-touched
 returns-in-Serve-clause-touched g c = λ differ.
-    serving_touches g.K.Sink.holds _ _ c.in-Serve.serving _ _ _ refl refl c.run_serve.ensures.serves c.run_serve.ensures.unwritten c.run_serve.ensures.no_memory differ
+    serving_touches g.K.Sink.holds _ _ c.in-Serve.serving _ _ _ _ refl refl c.run_serve.ensures.serves c.run_serve.ensures.unwritten c.run_serve.ensures.no_memory differ
 
 pub returns-in-Serve-clause-door_unfailed : goal.returns-in-Serve-clause-door_unfailed
-returns-in-Serve-clause-door_unfailed g c = λ differ. serving_door_kept c.in-Serve.serving _ _ _ c.run_serve.ensures.serves differ
+returns-in-Serve-clause-door_unfailed g c = λ differ. serving_door_kept c.in-Serve.serving _ _ _ _ c.run_serve.ensures.serves differ
