@@ -1,0 +1,5 @@
+pub mod Steps
+pub mod Counts
+pub mod Losses
+pub mod Dialers
+pub mod TwoConnections

@@ -1,0 +1,9 @@
+pub mod Numbers
+pub mod Bodies
+pub mod Asks
+pub mod Events
+pub mod Plans
+pub mod Dialing
+pub mod Dialers
+pub mod Sessions
+pub mod Laws
