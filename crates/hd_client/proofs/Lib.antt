@@ -1,0 +1,9 @@
+pub mod Onto
+pub mod Sides
+pub mod Endings
+pub mod Right
+pub mod Reasons
+pub mod Dialed
+pub mod Left
+pub mod Leaves
+pub mod Through

@@ -1,0 +1,20 @@
+use Rattle.std.proofs.Common.{refl}
+use Rattle.std.specs.Fmt.{digits}
+use Rattle.form_urlencoded.proofs.OnLiterals.{form_urlencoded_on_literals}
+use Rattle.hd_client.proofs.sessions.adds.Goals as goal
+
+pub returns-clause-printed : goal.returns-clause-printed
+unfolding form_urlencoded_on_literals digits
+returns-clause-printed c = refl
+
+pub returns-clause-given : goal.returns-clause-given
+unfolding form_urlencoded_on_literals digits
+returns-clause-given c = refl
+
+pub returns-clause-done : goal.returns-clause-done
+unfolding form_urlencoded_on_literals digits
+returns-clause-done c = refl
+
+pub returns-clause-until : goal.returns-clause-until
+unfolding form_urlencoded_on_literals digits
+returns-clause-until c = refl

@@ -1,0 +1,11 @@
+pub mod Scripts
+pub mod Refusals
+pub mod Setups
+pub mod Events
+pub mod Printed
+pub mod Plans
+pub mod Turns
+pub mod Telling
+pub mod Plain
+pub mod Sessions
+pub mod Laws
