@@ -89,6 +89,14 @@ serving_ends asked status Goes b n input faults ends =
     subst (λ s. Ends serving s (input_output input faults b.holds b.sink_faults) (input_output input faults n.holds n.sink_faults)) (sym ends.1)
     (ends_by asked Goes b n input faults ends.0 ends.2)
 
+-- the command asks for one way of serving
+pub serving_as : (command : Command) (serving asked : Serving) (status : Status) (Goes : List DoorCall → Type 0) (b n : serve.Environment)
+    → command ≡ Serve serving → EndsServing serving status Goes b n → command ≡ Serve asked → EndsServing asked status Goes b n
+serving_as command serving asked status Goes b n is ends other =
+    let one : ◌≡◌ {A = Command} (Serve serving) (Serve asked) = sym is ∙ other in
+    let same : serving ≡ asked = cc in
+    subst (λ s. EndsServing s status Goes b n) same ends
+
 -- ---- faults
 
 sink_kept : (asked : Serving) (Goes : List DoorCall → Type 0) (b n : serve.Environment) (result : Result Unit ServeError) → serve.Ends asked.base asked.resend asked.live asked.turns Goes b n result

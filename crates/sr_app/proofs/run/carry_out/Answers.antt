@@ -1,5 +1,5 @@
 use Rattle.std.proofs.Common.{refl}
-use Rattle.sr_app.proofs.Served.{serving_ends, serving_sink_kept, serving_door_kept, serving_touches}
+use Rattle.sr_app.proofs.Served.{serving_as, serving_ends, serving_sink_kept, serving_door_kept, serving_touches}
 use Rattle.sr_app.proofs.run.carry_out.Goals as goal
 
 pub returns-in-Replay-clause-ends : goal.returns-in-Replay-clause-ends
@@ -17,6 +17,10 @@ returns-in-Convert-clause-ends g c = rw c.in-Convert.is c.run_task-in-Convert.en
 pub returns-in-Serve-clause-ends : goal.returns-in-Serve-clause-ends
 returns-in-Serve-clause-ends g c = rw c.in-Serve.is
     (serving_ends c.in-Serve.serving _ _ _ _ (g.S.Source.left c.args.input.now) (g.S.Source.faults c.args.input.now) c.run_serve.ensures.serves)
+
+pub returns-in-Serve-clause-serves : goal.returns-in-Serve-clause-serves
+returns-in-Serve-clause-serves g c = λ asked is.
+    serving_as _ c.in-Serve.serving asked _ (λ calls. g.D.Door.Goes c.args.door.now calls c.run_serve.new.door) _ _ c.in-Serve.is c.run_serve.ensures.serves is
 
 pub returns-in-Serve-clause-faults : goal.returns-in-Serve-clause-faults
 returns-in-Serve-clause-faults g c =

@@ -88,4 +88,4 @@ returns-in-Err-NoCommand-clause-serves g c = λ asked asks. absurd (c.parse.ensu
 
 pub returns-in-Err-NoMemory-clause-serves : goal.returns-in-Err-NoMemory-clause-serves
 returns-in-Err-NoMemory-clause-serves g c = λ asked asks.
-    (NoMemory, c.code-in-Err-NoMemory.ensures, (Err end.NoMemory, refl, (inl (record { holds = refl; trace = refl; heard_at = refl }, inl refl), refl, refl)))
+    (NoMemory, c.code-in-Err-NoMemory.ensures, (Err end.NoMemory, refl, (inl (record { holds = refl; uncalled = g.met.D.Door.stays c.args.door.now; heard_at = refl }, inl refl), refl, refl)))
