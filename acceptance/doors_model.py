@@ -77,8 +77,8 @@ class Door:
             self.calls.next()
             self.now, event = self.heard.pop(0) if self.heard else (self.now, "quiet")
             return f"{self.now} {event}"
-        if word in self.asks and first in ("GET", "POST", "DELETE"):
-            self.say(f"{word} {self.lanes + 1} {more}")
+        if word in self.asks and kind in ("GET", "POST", "DELETE"):
+            self.say(f"{word} {self.lanes + 1} {number(first)} {text}")
             self.lanes += 1
             return f"lane {self.lanes}"
         if word == "reply" and not self.asks:
@@ -326,9 +326,9 @@ door next
 door next
 note a dialer: the ask of number 1 is to fail, and has no lane
 {HEARD}dialer start 1 -
-dialer ask POST /negotiate
-dialer ask GET /lost
-dialer upgrade GET /hub
+dialer ask 0 POST /negotiate
+dialer ask 1 GET /lost
+dialer upgrade 18446744073709551615 GET /hub
 dialer next
 dialer next
 dialer next
@@ -364,8 +364,8 @@ door next
 note a dialer's lanes: asks and calls that fail are no messages
 heard 2 drained 2
 dialer start 3 1
-dialer ask GET /
-dialer upgrade GET /hub
+dialer ask 1 GET /
+dialer upgrade 0 GET /hub
 dialer send 2 text zero
 dialer send 2 text lost
 dialer send 1 octets one
@@ -385,7 +385,8 @@ door start - x
 door start - - -
 heard 3 gone 1
 door reply x
-dialer ask OTHER /
+dialer ask 0 OTHER /
+dialer ask x GET /
 dialer reply 1
 note wires answer as their lists say; number 2 is to fail, and takes no moment, and number 6 leaves what is left of the first read
 {WIRES}wires start 5,5,9 2,6,26 100 100

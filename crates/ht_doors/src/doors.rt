@@ -138,11 +138,13 @@ fn ask(
     words: &str,
     upgrade: Option<Upgrade>,
 ) -> Result<String, Stop> {
+    let (place, words) = first_word(words);
+    let place = number(place)?;
     let (word, target) = first_word(words);
     let Some(method) = method(word) else {
         return Err(Stop::Refused);
     };
-    match dialer.ask(method, target, upgrade) {
+    match dialer.ask(place, method, target, upgrade) {
         Ok(lane) => Ok(format!(in alloc; "lane {lane}")?),
         Err(error) => failed(alloc, error),
     }
@@ -241,13 +243,14 @@ fn given_told(alloc: Global, given: &Given) -> Result<String, AllocError> {
         Given::Shut { lane } => format!(in alloc; "shut {lane}"),
         Given::Ask {
             lane,
+            place,
             target,
             upgrade,
             ..
         } => {
             let kind = if upgrade.is_some() { "upgrade" } else { "ask" };
             let target = as_text(target.bytes());
-            format!(in alloc; "{kind} {lane} {target}")
+            format!(in alloc; "{kind} {lane} {place} {target}")
         }
     }
 }

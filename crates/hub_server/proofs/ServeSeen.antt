@@ -14,7 +14,7 @@ lanes_append [] ys = refl
 lanes_append (give.Reply lane reply ∷ xs) ys = lanes_append xs ys
 lanes_append (give.Bytes lane bytes text ∷ xs) ys = ap (λ l. lane ∷ l) (lanes_append xs ys)
 lanes_append (give.Shut lane ∷ xs) ys = lanes_append xs ys
-lanes_append (give.Ask lane method target upgrade ∷ xs) ys = lanes_append xs ys
+lanes_append (give.Ask lane place method target upgrade ∷ xs) ys = lanes_append xs ys
 
 seeing_append : (ls ms : List ℕ) (xs ys : List Bool) (h : List ServerEvent) → length xs ≡ length ls
     → seeing (ls ++ ms) (xs ++ ys) h ≡ seeing ms ys (seeing ls xs h)

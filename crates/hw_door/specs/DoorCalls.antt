@@ -1,16 +1,19 @@
--- The calls of a door, one after the other, as they were answered.
-use Rattle.std.specs.Prelude.{◌≡◌, ℕ, Bool, true, false, List, [], ◌∷◌, flat_map, Result, Ok, Err}
+-- The calls of a door or a dialer, one after the other, as they were answered.
+use Rattle.std.specs.Prelude.{◌≡◌, ℕ, Bool, true, false, List, [], ◌∷◌, flat_map, Option, Result, Ok, Err}
+use Rattle.hw_lanes.specs.declared.http.Method.{Method}
+use Rattle.hw_door.specs.declared.heard.Upgrade.{Upgrade}
 use Rattle.hw_door.specs.declared.heard.Heard.{Heard}
 use Rattle.hw_door.specs.declared.heard.Given.{Given}
+use Rattle.hw_door.specs.declared.heard.Given.TheVariants.{Ask}
 use Rattle.hw_door.specs.declared.error.DoorError.{DoorError}
 
--- what a call asks of a door
+-- what a call asks of a door, or of a dialer
 pub data DoorAsk : Type 0 where
   -- to hear what happens next, with a wait of at most so many milliseconds
   to_hear : ℕ → DoorAsk
   to_say : Given → DoorAsk
 
--- one call of a door, as it was answered
+-- one call, as it was answered
 pub data DoorCall : Type 0 where
   -- this was heard, with a wait of at most so many milliseconds
   heard : ℕ → Heard → DoorCall
@@ -35,6 +38,11 @@ given_call what is_said (Err why) = failed (to_say what) why
 abbrev pub sent_call : Given → Bool → Result Bool DoorError → DoorCall
 sent_call what is_said (Ok full) = sent what is_said full
 sent_call what is_said (Err why) = failed (to_say what) why
+
+-- An ask is answered with its lane; one that failed has none, and any lane stands for it. What is asked is said, or not, as nothing stands at the address
+abbrev pub asked_call : ℕ → Method → List ℕ → Option Upgrade → ℕ → Bool → Result ℕ DoorError → DoorCall
+asked_call place method target upgrade unanswered is_said (Ok lane) = given (Ask lane place method target upgrade) is_said
+asked_call place method target upgrade unanswered is_said (Err why) = failed (to_say (Ask unanswered place method target upgrade)) why
 
 -- ---- what calls were
 

@@ -84,7 +84,7 @@ after_sending given (Err why) script = after_error why script
 
 -- it asks
 abbrev pub is_ask : Given → Bool
-is_ask (given.Ask lane method target upgrade) = true
+is_ask (given.Ask lane place method target upgrade) = true
 is_ask (given.Reply lane reply) = false
 is_ask (given.Bytes lane bytes text) = false
 is_ask (given.Shut lane) = false

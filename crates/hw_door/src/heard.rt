@@ -59,9 +59,10 @@ pub enum Given {
     Shut {
         lane: u64,
     },
-    /// A request with no body, on a new lane.
+    /// A request with no body, on a new lane, at the address that stands at this place of the dialer's list, from 0.
     Ask {
         lane: u64,
+        place: u64,
         method: Method,
         target: Text8,
         upgrade: Option<Upgrade>,

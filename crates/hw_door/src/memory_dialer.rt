@@ -1,9 +1,11 @@
 //! A dialer in memory, for tests.
 
-ghost use Rattle.std.specs.Prelude.{◌≡◌, ◌≢◌, ◌+◌, ℕ, IfOk, Some, count_by};
+ghost use Rattle.std.specs.Prelude.{◌≡◌, ◌≢◌, ◌+◌, ℕ, Bool, [], ◌∷◌, IfOk, count_by, refl};
 ghost use Rattle.hw_door.specs.declared.heard.Given.TheVariants as say;
-ghost use Rattle.hw_door.specs.Calls.{HasFaultCause, Hears, Says, Sends, IsLater, IsNewLane};
-ghost use Rattle.hw_door.specs.Memory.{MemoryScript, NeverFalls, ScriptFails, FailsIf, script_of, next_of, fills, after_next, after_saying, after_sending, is_ask, asks_of};
+ghost use Rattle.hw_door.specs.Calls.{HasFaultCause, IsLater, IsNewLane};
+ghost use Rattle.hw_door.specs.DoorCalls.{Chain, heard_call, given_call, sent_call, asked_call, flushed};
+ghost use Rattle.hw_door.specs.DoorLaws.{chain_joins};
+ghost use Rattle.hw_door.specs.Memory.{CallsMemory, MemoryScript, NeverFalls, ScriptFails, FailsIf, script_of, next_of, fills, after_next, after_saying, after_sending, is_ask, asks_of};
 
 use crate::error::DoorError;
 use crate::heard::{Given, Heard, Upgrade};
@@ -69,7 +71,11 @@ impl MemoryDialer {
 }
 
 impl Dialer for MemoryDialer {
-    ghost trace = { λ d. Some d.trace };
+    ghost Goes = { Chain CallsMemory };
+
+    ghost stays = { λ s. refl };
+
+    ghost joins = { chain_joins CallsMemory };
 
     ghost moment = { λ d. d.moment };
 
@@ -80,23 +86,25 @@ impl Dialer for MemoryDialer {
     /// Keeps the ask, and answers how many it has kept. It fails exactly at the calls that are to fail.
     fn ask(
         &mut self,
+        place: u64,
         method: Method,
         target: &str,
         upgrade: Option<Upgrade>,
     ) -> Result<u64, DoorError>
         requires { method ≢ Method.Other }
-        ensures given { Says (Some self.old.trace) (Some self.new.trace) (λ lane. say.Ask lane method target.now upgrade) result }
+        ensures given { (is_said : Bool) × (unanswered : ℕ) × Chain CallsMemory self.old (asked_call place method target.now upgrade unanswered is_said result ∷ []) self.new }
         ensures fresh { IsNewLane (asks_of self.old + 1) (asks_of self.new + 1) result }
         ensures others_unchanged { self.new.moment ≡ self.old.moment }
         ensures cause { HasFaultCause self.old.faults self.new.faults result }
         ensures lane { IfOk result (λ lane. lane ≡ asks_of self.old + 1) }
         ensures fails { FailsIf (ScriptFails self.old) result }
-        ensures after { self.new ≡ after_saying (λ lane. say.Ask lane method target.now upgrade) result self.old }
+        ensures after { self.new ≡ after_saying (λ lane. say.Ask lane place method target.now upgrade) result self.old }
     {
         let target = Text8::of(self.script.allocator(), target.as_bytes())?;
         let lane = count_asks(self.script.given()) as u64 + 1;
         self.script.say(Given::Ask {
             lane,
+            place,
             method,
             target,
             upgrade,
@@ -107,7 +115,7 @@ impl Dialer for MemoryDialer {
     /// Gives what is heard next, and once nothing is left `Quiet` at the moment heard last. It fails exactly at the calls that are to
     /// fail.
     fn next(&mut self, wait: u64) -> Result<Heard, DoorError>
-        ensures heard { Hears (Some self.old.trace) (Some self.new.trace) wait result }
+        ensures heard { Chain CallsMemory self.old (heard_call wait result ∷ []) self.new }
         ensures later { IsLater self.old.moment self.new.moment result }
         ensures lanes { asks_of self.new + 1 ≡ asks_of self.old + 1 }
         ensures cause { HasFaultCause self.old.faults self.new.faults result }
@@ -121,7 +129,7 @@ impl Dialer for MemoryDialer {
     /// Keeps a copy of the message. It fails exactly at the calls that are to fail, and its lane is full exactly after the messages that are to
     /// fill it.
     fn send(&mut self, lane: u64, bytes: &[u8], text: bool) -> Result<bool, DoorError>
-        ensures given { Sends (Some self.old.trace) (Some self.new.trace) (say.Bytes lane bytes.now text) result }
+        ensures given { (is_said : Bool) × Chain CallsMemory self.old (sent_call (say.Bytes lane bytes.now text) is_said result ∷ []) self.new }
         ensures others_unchanged { self.new.moment ≡ self.old.moment }
         ensures lanes { asks_of self.new + 1 ≡ asks_of self.old + 1 }
         ensures cause { HasFaultCause self.old.faults self.new.faults result }
@@ -135,7 +143,7 @@ impl Dialer for MemoryDialer {
 
     /// Keeps that the lane was shut. It fails exactly at the calls that are to fail.
     fn shut(&mut self, lane: u64) -> Result<(), DoorError>
-        ensures given { Says (Some self.old.trace) (Some self.new.trace) (λ done. say.Shut lane) result }
+        ensures given { (is_said : Bool) × Chain CallsMemory self.old (given_call (say.Shut lane) is_said result ∷ []) self.new }
         ensures others_unchanged { self.new.moment ≡ self.old.moment }
         ensures lanes { asks_of self.new + 1 ≡ asks_of self.old + 1 }
         ensures cause { HasFaultCause self.old.faults self.new.faults result }
@@ -146,6 +154,7 @@ impl Dialer for MemoryDialer {
     }
 
     fn flush(&mut self)
-        ensures { self.new ≡ self.old }
+        ensures goes { Chain CallsMemory self.old (flushed ∷ []) self.new }
+        ensures unchanged { self.new ≡ self.old }
     {}
 }

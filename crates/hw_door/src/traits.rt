@@ -5,8 +5,8 @@ ghost use Rattle.std.specs.Result.{result_ok};
 ghost use Rattle.hd_facts.specs.Counts.{HasCause};
 ghost use Rattle.hw_lanes.specs.Replies.{IsReply};
 ghost use Rattle.hw_door.specs.declared.heard.Given.TheVariants as say;
-ghost use Rattle.hw_door.specs.DoorCalls.{DoorCall, heard_call, given_call, sent_call, flushed};
-ghost use Rattle.hw_door.specs.Calls.{Trace, Adds, HasFaultCause, Hears, Says, Sends, IsLater, IsNewLane};
+ghost use Rattle.hw_door.specs.DoorCalls.{DoorCall, heard_call, given_call, sent_call, asked_call, flushed};
+ghost use Rattle.hw_door.specs.Calls.{Adds, HasFaultCause, IsLater, IsNewLane};
 
 use crate::error::DoorError;
 use crate::heard::{Heard, Upgrade};
@@ -92,11 +92,11 @@ pub trait Door {
 
 /// What a client asks through, and hears through.
 ///
-/// An implementation tells by `trace` what was heard and what it was given to say, its asks among that, or `None` if nobody can know it, as at a
-/// socket; by `lanes` a bound below which each lane lies that it answered; and by `moment`, `faults` and `is_flushed` what a [`Door`] does.
-/// `cause` is as at a [`Door`]. After an error the moment and what it tells are as before; out of memory the count of faults is as before too.
+/// An implementation tells by `Goes` which calls, its asks among them, lead from one state to another, as a [`Door`] does; by `lanes` a bound
+/// below which each lane lies that it answered; and by `moment`, `faults` and `is_flushed` what a [`Door`] does.
+/// `cause` is as at a [`Door`]. After an error the moment is as before; out of memory the count of faults is as before too.
 pub trait Dialer {
-    ghost trace: { Self → Option Trace } = { λ _. None };
+    ghost Goes: { Self → List DoorCall → Self → Type 0 };
 
     ghost moment: { Self → ℕ };
 
@@ -106,23 +106,25 @@ pub trait Dialer {
 
     ghost faults: { Self → ℕ };
 
-    /// Asks with a method for a target, on a new lane, whose number it answers: one that it never answered before. With an upgrade it
-    /// asks for a WebSocket. What comes of it is heard later.
+    /// Asks with a method for a target, at the address that stands at this place of the dialer's list, from 0; on a new lane, whose number it
+    /// answers: one that it never answered before. With an upgrade it asks for a WebSocket. What comes of it is heard later: where nothing can
+    /// be asked, as no address stands at the place or nothing at the address, the lane is lost.
     fn ask(
         &mut self,
+        place: u64,
         method: Method,
         target: &str,
         upgrade: Option<Upgrade>,
     ) -> Result<u64, DoorError>
         requires { method ≢ Method.Other }
-        ensures given { Says (trace self.old) (trace self.new) (λ lane. say.Ask lane method target.now upgrade) result }
+        ensures given { (is_said : Bool) × (unanswered : ℕ) × Goes self.old (asked_call place method target.now upgrade unanswered is_said result ∷ []) self.new }
         ensures fresh { IsNewLane (lanes self.old) (lanes self.new) result }
         ensures others_unchanged { moment self.new ≡ moment self.old }
         ensures cause { HasFaultCause (faults self.old) (faults self.new) result };
 
     /// Hears what happens next, and waits for that at most `wait` milliseconds. Its moment is never before that of what was heard last.
     fn next(&mut self, wait: u64) -> Result<Heard, DoorError>
-        ensures heard { Hears (trace self.old) (trace self.new) wait result }
+        ensures heard { Goes self.old (heard_call wait result ∷ []) self.new }
         ensures later { IsLater (moment self.old) (moment self.new) result }
         ensures lanes { lanes self.new ≡ lanes self.old }
         ensures cause { HasFaultCause (faults self.old) (faults self.new) result };
@@ -131,14 +133,14 @@ pub trait Dialer {
     /// nothing more should be sent, though it may be, until [`Drained`](crate::Event::Drained) is heard of the lane or a later message is answered
     /// with false. Neither comes of a lane that is shut or lost. On a lane that is broken this is Ok, and nothing is said.
     fn send(&mut self, lane: u64, bytes: &[u8], text: bool) -> Result<bool, DoorError>
-        ensures given { Sends (trace self.old) (trace self.new) (say.Bytes lane bytes.now text) result }
+        ensures given { (is_said : Bool) × Goes self.old (sent_call (say.Bytes lane bytes.now text) is_said result ∷ []) self.new }
         ensures others_unchanged { moment self.new ≡ moment self.old }
         ensures lanes { lanes self.new ≡ lanes self.old }
         ensures cause { HasFaultCause (faults self.old) (faults self.new) result };
 
     /// Ends the lane, once what it was given before is said.
     fn shut(&mut self, lane: u64) -> Result<(), DoorError>
-        ensures given { Says (trace self.old) (trace self.new) (λ done. say.Shut lane) result }
+        ensures given { (is_said : Bool) × Goes self.old (given_call (say.Shut lane) is_said result ∷ []) self.new }
         ensures others_unchanged { moment self.new ≡ moment self.old }
         ensures lanes { lanes self.new ≡ lanes self.old }
         ensures cause { HasFaultCause (faults self.old) (faults self.new) result };
@@ -147,8 +149,12 @@ pub trait Dialer {
     /// that several messages go out at once; whoever hears nothing more calls this last. A dialer that says all at once does nothing.
     fn flush(&mut self)
         ensures flushed { is_flushed self.new ≡ true }
-        ensures trace { trace self.new ≡ trace self.old }
+        ensures goes { Goes self.old (flushed ∷ []) self.new }
         ensures others_unchanged { moment self.new ≡ moment self.old }
         ensures lanes { lanes self.new ≡ lanes self.old }
         ensures unfailed { faults self.new ≡ faults self.old };
+
+    ghost stays: { (s : Self) → Goes s [] s };
+
+    ghost joins: { (a b c : Self) (x y : List DoorCall) → Goes a x b → Goes b y c → Goes a (x ++ y) c };
 }
