@@ -3,6 +3,7 @@ use Rattle.std.specs.Prelude.{◌==◌, ℕ, Bool, List, [], ◌∷◌, ◌++◌
 use Rattle.http.specs.StatusCode.{reason_phrase}
 use Rattle.base64.specs.GeneralPurpose.{encode_of}
 use Rattle.base64.specs.Engines.{standard}
+use Rattle.websocket.specs.Handshake.{accept_key_of}
 use Rattle.hw_lanes.specs.declared.http.BodyKind.{BodyKind}
 use Rattle.hw_lanes.specs.declared.http.BodyKind.TheVariants as kind
 use Rattle.hw_lanes.specs.declared.http.Method.{Method}
@@ -84,6 +85,10 @@ no_body_line method.Other = []
 -- base64 with padding (RFC 4648, section 4)
 unfoldable pub base64_of : List ℕ → List ℕ
 base64_of bytes = encode_of standard bytes
+
+-- the text that accepts what is asked for with this key
+abbrev pub accept_of_ask : List ℕ → List ℕ
+accept_of_ask key = accept_key_of (base64_of key)
 
 -- the lines that ask for a WebSocket with this key
 abbrev pub key_lines : Option (List ℕ) → List ℕ

@@ -43,4 +43,4 @@ pub use laws::limits_are_named;
 pub use limits::{MOST_BODY, MOST_HEAD, MOST_HEADERS};
 pub use response::Response;
 pub use response_lane::ResponseLane;
-pub use texts::{write_ask, write_continue, write_reply};
+pub use texts::{accept_of_ask, write_ask, write_continue, write_reply};

@@ -37,9 +37,16 @@ impl ResponseLane {
         })
     }
 
-    /// Takes the first bytes of the piece and answers how many: the lesser of its length and the room. The room is the greater of
-    /// [`MOST_HEAD`](crate::MOST_HEAD) and the length of the response whose head was read, less the bytes held; a spent lane has none. It
-    /// takes no memory.
+    /// How many bytes more it takes: the greater of [`MOST_HEAD`](crate::MOST_HEAD) and the length of the response whose head was read,
+    /// less the bytes held. A spent lane takes none.
+    pub fn room(&self) -> usize
+        ensures { result ≡ room self.now }
+    {
+        self.lane.room()
+    }
+
+    /// Takes the first bytes of the piece and answers how many: the lesser of its length and the [`room`](ResponseLane::room). It takes no
+    /// memory.
     pub fn feed(&mut self, piece: &[u8]) -> usize
         ensures count { result ≡ min (length piece.now) (room self.old) }
         ensures held { self.new ≡ record self.old { held = self.old.held ++ take result piece.now } }

@@ -2,11 +2,12 @@
 ghost use Rattle.std.specs.Prelude.{◌≡◌, ◌≢◌, ◌++◌, [], OnOk, OnErr, IfOk, length, string_bytes, codes};
 ghost use Rattle.http.specs.StatusCode.{IsStatusCode};
 ghost use Rattle.hw_lanes.specs.Replies.{IsReply};
-ghost use Rattle.hh_http.specs.Texts.{phrase_of, status_line, type_line, body_lines, field_line, close_line, content_lines, reply_lines, reply_text, continue_text, method_name, no_body_line, base64_of, key_lines, request_line, host_line, ask_text};
+ghost use Rattle.hh_http.specs.Texts.{phrase_of, status_line, type_line, body_lines, field_line, close_line, content_lines, reply_lines, reply_text, continue_text, method_name, no_body_line, base64_of, accept_of_ask, key_lines, request_line, host_line, ask_text};
 
+use crate::key::accept_key;
 use base64::engine::general_purpose::STANDARD;
 use http::StatusCode;
-use hw_lanes::{BodyKind, Method, Reply, ReplyField};
+use hw_lanes::{BodyKind, Method, Reply, ReplyField, Text8};
 use std::alloc::{AllocError, Global};
 
 fn phrase_of_code(code: StatusCode) -> &'static str
@@ -178,6 +179,14 @@ fn key_lines(alloc: Global, key: Option<[u8; 16]>) -> Result<String, AllocError>
     format!(in alloc;
         "Upgrade: websocket\r\nConnection: Upgrade\r\nSec-WebSocket-Key: {text}\r\nSec-WebSocket-Version: 13\r\n"
     )
+}
+
+/// The text of `Sec-WebSocket-Accept` by which an ask with this key is accepted (RFC 6455, section 4.1). It fails if it is out of memory.
+pub fn accept_of_ask(alloc: Global, key: [u8; 16]) -> Result<Text8, AllocError>
+    ensures { IfOk result (λ text. text ≡ accept_of_ask key) }
+{
+    let text = base64_of(alloc, &key)?;
+    accept_key(alloc, text.as_bytes())
 }
 
 fn request_line(alloc: Global, name: &str, target: &str) -> Result<String, AllocError>
