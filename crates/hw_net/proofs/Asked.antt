@@ -13,12 +13,12 @@ use Rattle.hw_net.specs.declared.limits.TheConstants.{SWITCHING}
 use Rattle.hw_net.specs.declared.input.Input.{Input}
 use Rattle.hw_net.specs.declared.input.Input.TheVariants as input
 use Rattle.hw_net.specs.declared.protocol.Protocol.{Protocol}
-use Rattle.hw_net.specs.declared.protocol.Protocol.TheVariants.{Http, Socket}
+use Rattle.hw_net.specs.declared.protocol.Protocol.TheVariants.{Http, Response, Socket}
 use Rattle.hw_net.specs.declared.protocol.Stage.{Stage}
 use Rattle.hw_net.specs.declared.protocol.Stage.TheVariants.{Live, Lost, Closing, Over}
 use Rattle.hw_net.specs.HttpState.{HttpStateView, requests_of}
 use Rattle.hw_net.specs.Door.{new_lane}
-use Rattle.hw_net.specs.Lane.{Lane, waits, after_reply, owes, is_live, is_overdue, protocol_after_shut, protocol_after_reply, new_socket, rest_of, after_hearing, protocol_after_continue}
+use Rattle.hw_net.specs.Lane.{Lane, waits, after_reply, owes, is_live, is_overdue, protocol_after_shut, protocol_after_reply, protocol_after_upgrade, new_socket, rest_of, after_hearing, protocol_after_continue}
 use Rattle.hw_net.specs.Saying.{Writes, WritesOut, DropsOrWrites, SpeaksAs, Says, SaysAt, SaysMore, GathersOrSays, must_end, has_closed_long, is_too_much}
 use Rattle.hw_net.specs.Sessions as session
 use Rattle.hw_net.specs.Sessions.{Call, Session, answers_in, answers_of, request_on, requests_on, HeardRequests, RequestsAreAsked, RefusalsAreDeserved}
@@ -34,6 +34,7 @@ use Rattle.hw_net.proofs.Walks.{IsHeard, Heeds, Moves, moves-wire, IsUntouched, 
 -- these requests were heard of these bytes
 abbrev pub HeardIn : List ℕ → List Request → Protocol → Type 0
 HeardIn bytes requests (Http http_state) = Asks bytes requests http_state.lane.held
+HeardIn bytes requests (Response response_state) = ⊥
 HeardIn bytes requests (Socket websocket_state) =
     (first : List ℕ) × (rest : List ℕ) × (more : List ℕ) × (bytes ≡ first ++ more) × Asks first requests rest
 
@@ -53,6 +54,7 @@ writes-none at wire waits _ left whole h = absurd h
 
 speaks-heard : (before after : Protocol) (bytes : List ℕ) (requests : List Request) → SpeaksAs before after → HeardIn bytes requests before → HeardIn bytes requests after
 speaks-heard (Http before) (Http after) bytes requests e h = subst (λ (a : HttpStateView). Asks bytes requests a.lane.held) (sym e) h
+speaks-heard (Response before) (Response after) bytes requests e h = absurd h
 speaks-heard (Socket before) (Socket after) bytes requests e h = h
 speaks-heard _ _ bytes requests e h = absurd e
 
@@ -120,6 +122,7 @@ hears-asked : (wire : ℕ) (before after : Protocol) (answers : List Answer) (wh
     HeardIn (bytes ++ read_on wire answers) (requests ++ requests_of what) after
 hears-asked wire (Http before) (Http after) answers what bytes requests h k =
     subst (λ (l : List ℕ). Asks (bytes ++ l) (requests ++ requests_of what) after.lane.held) (sym (gives-bytes wire _ answers h.got h.read)) (h.asks bytes requests k)
+hears-asked wire (Response before) (Response after) answers what bytes requests h k = absurd k
 hears-asked wire (Socket before) (Socket after) answers what bytes requests h k =
     (k.0, k.1, k.2 ++ read_on wire answers, ap (λ l. l ++ read_on wire answers) k.3 ∙ append_assoc k.0 k.2 (read_on wire answers), go what h.is_input) where
       same-requests : (more : List Request) → more ≡ [] → Asks k.0 (requests ++ more) k.1
@@ -129,13 +132,21 @@ hears-asked wire (Socket before) (Socket after) answers what bytes requests h k 
       go input.Nothing n = same-requests [] refl
       go (input.Request request) n = absurd n
       go (input.Refused refusal) n = absurd n
+      go (input.Response status body) n = absurd n
+      go input.Upgraded n = absurd n
       go (input.Message message) n = same-requests [] refl
       go input.Broken n = same-requests [] refl
       go input.Gone n = same-requests [] refl
 hears-asked wire _ _ answers what bytes requests h k = absurd h
 
+upgrade-heard : (protocol : Protocol) (bytes : List ℕ) (requests : List Request) → HeardIn bytes requests protocol → HeardIn bytes requests (protocol_after_upgrade protocol)
+upgrade-heard (Http http_state) bytes requests h = h
+upgrade-heard (Response response_state) bytes requests h = absurd h
+upgrade-heard (Socket websocket_state) bytes requests h = h
+
 shut-heard : (protocol : Protocol) (bytes : List ℕ) (requests : List Request) → HeardIn bytes requests protocol → HeardIn bytes requests (protocol_after_shut protocol)
 shut-heard (Http http_state) bytes requests h = h
+shut-heard (Response response_state) bytes requests h = h
 shut-heard (Socket websocket_state) bytes requests h = h
 
 falls-silent : (before after : Lane) (answers : List Answer) (heard : Option Event) → Falls before after answers heard → Silent before after answers
@@ -152,6 +163,9 @@ settles-silent now before after answers input.Nothing heard h = go (is_overdue n
 settles-silent now before after answers (input.Request request) heard h = passes-silent before before after answers _ heard refl h
 settles-silent now before after answers (input.Refused refusal) heard h = passes-silent before _ after answers _ heard refl h
 settles-silent now before after answers (input.Message bytes) heard h = passes-silent before before after answers _ heard refl h
+settles-silent now before after answers (input.Response status body) heard h = passes-silent before before after answers _ heard refl h
+settles-silent now before after answers input.Upgraded heard h =
+    (λ wire. none-of wire [] answers h.0 refl, λ bytes requests k. subst (λ (l : Lane). HeardIn bytes requests l.protocol) (sym h.2) (upgrade-heard before.protocol bytes requests k))
 settles-silent now before after answers input.Broken heard h = falls-silent before after answers heard h
 settles-silent now before after answers input.Gone heard h =
     (λ wire. none-of wire [] answers h.0 refl, λ bytes requests k. subst (λ (l : Lane). HeardIn bytes requests l.protocol) (sym h.2) (shut-heard before.protocol bytes requests k))
@@ -171,6 +185,8 @@ settles-requests now before after answers input.Nothing heard h = go (is_overdue
   go false h = ap (λ o. requests_in before.wire o) h.1
 settles-requests now before after answers (input.Request request) heard h = ap (λ o. requests_in before.wire o) h.1 ∙ trace-request before.wire request
 settles-requests now before after answers (input.Refused refusal) heard h = ap (λ o. requests_in before.wire o) h.1
+settles-requests now before after answers (input.Response status body) heard h = ap (λ o. requests_in before.wire o) h.1
+settles-requests now before after answers input.Upgraded heard h = ap (λ o. requests_in before.wire o) h.1
 settles-requests now before after answers (input.Message bytes) heard h = ap (λ o. requests_in before.wire o) h.1
 settles-requests now before after answers input.Broken heard h = ap (λ o. requests_in before.wire o) h.1
 settles-requests now before after answers input.Gone heard h = ap (λ o. requests_in before.wire o) h.1
@@ -211,6 +227,7 @@ live-reads wire answers read shut written all e f =
 
 continue-heard : (protocol : Protocol) (bytes : List ℕ) (requests : List Request) → HeardIn bytes requests protocol → HeardIn bytes requests (protocol_after_continue protocol)
 continue-heard (Http http_state) bytes requests h = h
+continue-heard (Response response_state) bytes requests h = h
 continue-heard (Socket websocket_state) bytes requests h = h
 
 live-asked : (now : ℕ) (x y : Lane) (mine : List Answer) (own : Option Event) → TurnsLive now x y mine own → Asked x y mine (requests_in x.wire own)
@@ -250,8 +267,10 @@ heeds-asked now what x y mine (inr h) = nothing-more x y mine (request_on x.wire
 
 replied-heard : (b : Bool) (protocol : Protocol) (bytes : List ℕ) (requests : List Request) → HeardIn bytes requests protocol → HeardIn bytes requests (if b then new_socket (rest_of protocol) else protocol_after_reply protocol)
 replied-heard true (Http http_state) bytes requests h = (bytes, http_state.lane.held, [], sym (append-nil bytes), h)
+replied-heard true (Response response_state) bytes requests h = absurd h
 replied-heard true (Socket websocket_state) bytes requests h = h
 replied-heard false (Http http_state) bytes requests h = h
+replied-heard false (Response response_state) bytes requests h = h
 replied-heard false (Socket websocket_state) bytes requests h = h
 
 replied-protocol : (now : ℕ) (reply : Reply) (lane : Lane) → (after_reply now reply lane).protocol ≡ (if reply.status == SWITCHING then new_socket (rest_of lane.protocol) else protocol_after_reply lane.protocol)
@@ -277,6 +296,7 @@ put-heard : (live : Bool) (protocol : Protocol) (bytes : List ℕ) (text : Bool)
 put-heard true (Socket websocket_state) bytes text before after is_put e h all requests k =
     subst (λ (l : Lane). HeardIn all requests l.protocol) (sym h.2) (subst (λ (t : Protocol). HeardIn all requests t) e k)
 put-heard true (Http http_state) bytes text before after is_put e h all requests k = subst (λ (l : Lane). HeardIn all requests l.protocol) (sym h.1) k
+put-heard true (Response response_state) bytes text before after is_put e h all requests k = subst (λ (l : Lane). HeardIn all requests l.protocol) (sym h.1) k
 put-heard false protocol bytes text before after is_put e h all requests k = subst (λ (l : Lane). HeardIn all requests l.protocol) (sym h.1) k
 
 pub sends-silent : (now : ℕ) (bytes : List ℕ) (text : Bool) (before after : Lane) (answers : List Answer) → Sends now bytes text before after answers → Silent before after answers
@@ -344,6 +364,7 @@ new-asked calls now wire h =
 
 heard-requests-of : (calls : List Call) (wire : ℕ) (protocol : Protocol) → HeardIn (read_on wire (answers_of calls)) (requests_on wire calls) protocol → HeardRequests calls wire protocol
 heard-requests-of calls wire (Http http_state) h = h
+heard-requests-of calls wire (Response response_state) h = h
 heard-requests-of calls wire (Socket websocket_state) h = h
 
 pub requests-are-asked : RequestsAreAsked
@@ -367,6 +388,8 @@ settles-refusal now before after answers input.Nothing heard h = go (is_overdue 
   go false h = ap (λ o. refusal_in o) h.1
 settles-refusal now before after answers (input.Request request) heard h = ap (λ o. refusal_in o) h.1
 settles-refusal now before after answers (input.Refused refusal) heard h = ap (λ o. refusal_in o) h.1
+settles-refusal now before after answers (input.Response status body) heard h = ap (λ o. refusal_in o) h.1
+settles-refusal now before after answers input.Upgraded heard h = ap (λ o. refusal_in o) h.1
 settles-refusal now before after answers (input.Message bytes) heard h = ap (λ o. refusal_in o) h.1
 settles-refusal now before after answers input.Broken heard h = ap (λ o. refusal_in o) h.1
 settles-refusal now before after answers input.Gone heard h = ap (λ o. refusal_in o) h.1
@@ -396,6 +419,9 @@ hears-refused wire (Http before) (Http after) answers (input.Refused trace) refu
 hears-refused wire (Socket before) (Socket after) answers (input.Refused trace) refusal bytes requests e h k = absurd h.is_input
 hears-refused wire (Http before) (Socket after) answers (input.Refused trace) refusal bytes requests e h k = absurd h
 hears-refused wire (Socket before) (Http after) answers (input.Refused trace) refusal bytes requests e h k = absurd h
+hears-refused wire (Response before) after answers (input.Refused trace) refusal bytes requests e h k = absurd k
+hears-refused wire (Http before) (Response after) answers (input.Refused trace) refusal bytes requests e h k = absurd h
+hears-refused wire (Socket before) (Response after) answers (input.Refused trace) refusal bytes requests e h k = absurd h
 hears-refused wire before after answers _ refusal bytes requests e h k = absurd (cc e)
 
 live-refused : (now : ℕ) (x y : Lane) (mine : List Answer) (own : Option Event) (refusal : Refusal) (bytes : List ℕ) (requests : List Request) → TurnsLive now x y mine own → refusal_in own ≡ Some refusal →

@@ -8,21 +8,22 @@ use Rattle.hw_door.specs.Traffic.{Answer}
 use Rattle.hw_net.specs.declared.limits.TheConstants.{SWITCHING}
 use Rattle.hw_net.specs.declared.input.Input.{Input}
 use Rattle.hw_net.specs.declared.input.Input.TheVariants as input
+use Rattle.hw_net.specs.declared.response_state.Expected.{Expected}
 use Rattle.hw_net.specs.declared.protocol.Protocol.{Protocol}
-use Rattle.hw_net.specs.declared.protocol.Protocol.TheVariants.{Http, Socket}
+use Rattle.hw_net.specs.declared.protocol.Protocol.TheVariants.{Http, Response, Socket}
 use Rattle.hw_net.specs.declared.protocol.Stage.{Stage}
 use Rattle.hw_net.specs.declared.protocol.Stage.TheVariants.{Live, Lost, Closing, Over}
 use Rattle.hw_net.specs.Awaited.{is_lost_on, awaits_on, upgraded_on, AreAwaited, RequestsAreFree}
 use Rattle.hw_net.specs.Door.{new_lane}
-use Rattle.hw_net.specs.Lane.{Lane, waits, is_live, is_busy, owes, is_overdue, after_reply, protocol_after_shut, protocol_after_reply, protocol_after_continue, new_socket, rest_of, after_hearing}
+use Rattle.hw_net.specs.Lane.{Lane, waits, is_live, is_busy, owes, is_overdue, after_reply, protocol_after_shut, protocol_after_reply, protocol_after_upgrade, accepted_socket, protocol_after_continue, new_socket, rest_of, after_hearing}
 use Rattle.hw_net.specs.Saying.{WritesOut, DropsOrWrites, SpeaksAs, Says, SaysAt, SaysMore, GathersOrSays, has_closed_long, is_too_much}
 use Rattle.hw_net.specs.Sessions as session
-use Rattle.hw_net.specs.Sessions.{Call, Session, is_request_on, request_on, requests_on}
+use Rattle.hw_net.specs.Sessions.{Call, Session, is_end_on, is_request_on, request_on, requests_on}
 use Rattle.hw_net.specs.Trace.{Chooses}
 use Rattle.hw_net.specs.Turn.{Hears, Falls, Passes, Settles, Loses, LosesAt, TurnsLive, TurnsAt, Listens, Replies, PutsAt, Sends, Shuts}
 use Rattle.hw_net.proofs.Bystanders.{SaysOrStays, Stays, gathered-says}
-use Rattle.hw_net.proofs.Counting.{is_socket, Lives, same-lives, says-live, more-live, bystander-live, loses-live, sends-live, shuts-live, live-busy, heeds-free}
-use Rattle.hw_net.proofs.Ends.{is_request_in, heard-request, continue-busy, replied-owes}
+use Rattle.hw_net.proofs.Counting.{hears_no_request, Lives, same-lives, says-live, more-live, bystander-live, loses-live, sends-live, shuts-live, live-busy, heeds-free}
+use Rattle.hw_net.proofs.Ends.{is_request_in, heard-request, continue-busy, upgrade-busy, replied-owes}
 use Rattle.hw_net.proofs.Fullness.{by-fullness, SaysPut}
 use Rattle.hw_net.proofs.Owed.{by-number}
 use Rattle.hw_net.proofs.Owning.{is_on}
@@ -31,15 +32,16 @@ use Rattle.hw_net.proofs.Walks.{IsHeard, Heeds, Moves, moves-wire, IsUntouched, 
 
 -- ---- what a lane speaks
 
--- it is a WebSocket if it was one
-abbrev Speaks : Lane → Lane → Type 0
-Speaks x y = is_socket y.protocol ≡ is_socket x.protocol
+-- it is one of requests if it was
+abbrev pub Speaks : Lane → Lane → Type 0
+Speaks x y = hears_no_request y.protocol ≡ hears_no_request x.protocol
 
-same-speech : (x y : Lane) → y ≡ x → Speaks x y
-same-speech x y e = ap (λ (l : Lane). is_socket l.protocol) e
+pub same-speech : (x y : Lane) → y ≡ x → Speaks x y
+same-speech x y e = ap (λ (l : Lane). hears_no_request l.protocol) e
 
-as-speech : (before after : Protocol) → SpeaksAs before after → is_socket after ≡ is_socket before
+as-speech : (before after : Protocol) → SpeaksAs before after → hears_no_request after ≡ hears_no_request before
 as-speech (Http before) (Http after) e = refl
+as-speech (Response before) (Response after) e = refl
 as-speech (Socket before) (Socket after) e = refl
 as-speech _ _ e = absurd e
 
@@ -47,7 +49,7 @@ writes-speech : (x y : Lane) (answers : List Answer) → WritesOut x y answers �
 writes-speech x y answers w = as-speech x.protocol y.protocol w.still.protocol
 
 dropped-or-speech : (is_dropped : Bool) (x y : Lane) (answers : List Answer) → DropsOrWrites is_dropped x y answers → Speaks x y
-dropped-or-speech true x y answers h = ap (λ (l : Lane). is_socket l.protocol) h.1
+dropped-or-speech true x y answers h = ap (λ (l : Lane). hears_no_request l.protocol) h.1
 dropped-or-speech false x y answers h = writes-speech x y answers h
 
 says-speech : (now : ℕ) (x y : Lane) (answers : List Answer) → Says now x y answers → Speaks x y
@@ -61,7 +63,7 @@ says-speech now x y answers h = go x.stage h where
 more-speech : (x y : Lane) (answers : List Answer) → SaysMore x y answers → Speaks x y
 more-speech x y answers h = dropped-or-speech (is_too_much (length (waits x))) x y answers h
 
-bystander-speech : (now : ℕ) (x y : Lane) (answers : List Answer) → SaysOrStays now x y answers → Speaks x y
+pub bystander-speech : (now : ℕ) (x y : Lane) (answers : List Answer) → SaysOrStays now x y answers → Speaks x y
 bystander-speech now x y answers (inl h) = says-speech now x y answers h
 bystander-speech now x y answers (inr h) = same-speech x y h.0
 
@@ -76,33 +78,46 @@ loses-speech (Some here) x y heard h = same-speech x y h.1
 loses-speech None x y heard h = go x.stage h where
   go : (s : Stage) → LosesAt s x y heard → Speaks x y
   go Live h = same-speech x y h.1
-  go Lost h = ap (λ (l : Lane). is_socket l.protocol) h.1
+  go Lost h = ap (λ (l : Lane). hears_no_request l.protocol) h.1
   go Closing h = same-speech x y h.1
   go Over h = same-speech x y h.1
 
-continue-speech : (protocol : Protocol) → is_socket (protocol_after_continue protocol) ≡ is_socket protocol
+continue-speech : (protocol : Protocol) → hears_no_request (protocol_after_continue protocol) ≡ hears_no_request protocol
 continue-speech (Http http_state) = refl
+continue-speech (Response response_state) = refl
 continue-speech (Socket websocket_state) = refl
 
-shut-speech : (protocol : Protocol) → is_socket (protocol_after_shut protocol) ≡ is_socket protocol
+shut-speech : (protocol : Protocol) → hears_no_request (protocol_after_shut protocol) ≡ hears_no_request protocol
 shut-speech (Http http_state) = refl
+shut-speech (Response response_state) = refl
 shut-speech (Socket websocket_state) = refl
 
-hears-speech : (wire : ℕ) (before after : Protocol) (answers : List Answer) (what : Input) → Hears wire before after answers what → is_socket after ≡ is_socket before
+upgrade-speech : (protocol : Protocol) → hears_no_request (protocol_after_upgrade protocol) ≡ hears_no_request protocol
+upgrade-speech (Http http_state) = refl
+upgrade-speech (Response response_state) = go response_state.upgrade where
+  go : (upgrade : Option Expected) → hears_no_request (accepted_socket upgrade response_state) ≡ true
+  go None = refl
+  go (Some expected) = refl
+upgrade-speech (Socket websocket_state) = refl
+
+hears-speech : (wire : ℕ) (before after : Protocol) (answers : List Answer) (what : Input) → Hears wire before after answers what → hears_no_request after ≡ hears_no_request before
 hears-speech wire (Http before) (Http after) answers what h = refl
+hears-speech wire (Response before) (Response after) answers what h = refl
 hears-speech wire (Socket before) (Socket after) answers what h = refl
 hears-speech wire _ _ answers what h = absurd h
 
 settles-speech : (now : ℕ) (x y : Lane) (answers : List Answer) (what : Input) (heard : Option Event) → Settles now x y answers what heard → Speaks x y
 settles-speech now x y answers input.Nothing heard h = go (is_overdue now x) h where
   go : (b : Bool) → Chooses b (Falls x y answers heard) (Passes x y answers None heard) → Speaks x y
-  go true h = ap (λ (l : Lane). is_socket l.protocol) h.2
+  go true h = ap (λ (l : Lane). hears_no_request l.protocol) h.2
   go false h = same-speech x y h.2
 settles-speech now x y answers (input.Request request) heard h = same-speech x y h.2
-settles-speech now x y answers (input.Refused refusal) heard h = ap (λ (l : Lane). is_socket l.protocol) h.2
+settles-speech now x y answers (input.Refused refusal) heard h = ap (λ (l : Lane). hears_no_request l.protocol) h.2
+settles-speech now x y answers (input.Response status body) heard h = same-speech x y h.2
+settles-speech now x y answers input.Upgraded heard h = ap (λ (l : Lane). hears_no_request l.protocol) h.2 ∙ upgrade-speech x.protocol
 settles-speech now x y answers (input.Message bytes) heard h = same-speech x y h.2
-settles-speech now x y answers input.Broken heard h = ap (λ (l : Lane). is_socket l.protocol) h.2
-settles-speech now x y answers input.Gone heard h = ap (λ (l : Lane). is_socket l.protocol) h.2 ∙ shut-speech x.protocol
+settles-speech now x y answers input.Broken heard h = ap (λ (l : Lane). hears_no_request l.protocol) h.2
+settles-speech now x y answers input.Gone heard h = ap (λ (l : Lane). hears_no_request l.protocol) h.2 ∙ shut-speech x.protocol
 
 live-speech : (now : ℕ) (x y : Lane) (mine : List Answer) (own : Option Event) → TurnsLive now x y mine own → Speaks x y
 live-speech now x y mine own h =
@@ -115,29 +130,30 @@ listens-speech now x y mine own h = go x.stage h where
   go : (s : Stage) → TurnsAt s now x y mine own → Speaks x y
   go Live h = by-fullness (λ (l : Lane). Speaks x l) now x y mine own
       (λ d f s. says-speech now (record x { full = None }) y mine s)
-      (λ s f. ap (λ (l : Lane). is_socket l.protocol) f.2)
+      (λ s f. ap (λ (l : Lane). hears_no_request l.protocol) f.2)
       (λ mid t. live-speech now x mid mine own t)
       h
-  go Lost h = ap (λ (l : Lane). is_socket l.protocol) h.2
+  go Lost h = ap (λ (l : Lane). hears_no_request l.protocol) h.2
   go Closing h = says-speech now x y mine h.1
   go Over h = same-speech x y h.2
 
-heeds-speech : (now : ℕ) (what : Event) (x y : Lane) (mine : List Answer) → Heeds now what x y mine → Speaks x y
+pub heeds-speech : (now : ℕ) (what : Event) (x y : Lane) (mine : List Answer) → Heeds now what x y mine → Speaks x y
 heeds-speech now what x y mine (inl h) = listens-speech now x y mine h.0 h.1
 heeds-speech now what x y mine (inr h) = bystander-speech now x y mine h.0
 
 put-speech : (live : Bool) (protocol : Protocol) (bytes : List ℕ) (text : Bool) (x mid : Lane) (is_put : Bool) → x.protocol ≡ protocol → PutsAt live protocol bytes text x mid is_put → Speaks x mid
-put-speech true (Socket websocket_state) bytes text x mid is_put e h = ap (λ (l : Lane). is_socket l.protocol) h.2 ∙ sym (ap is_socket e)
+put-speech true (Socket websocket_state) bytes text x mid is_put e h = ap (λ (l : Lane). hears_no_request l.protocol) h.2 ∙ sym (ap hears_no_request e)
 put-speech true (Http http_state) bytes text x mid is_put e h = same-speech x mid h.1
+put-speech true (Response response_state) bytes text x mid is_put e h = same-speech x mid h.1
 put-speech false protocol bytes text x mid is_put e h = same-speech x mid h.1
 
-sends-speech : (now : ℕ) (bytes : List ℕ) (text : Bool) (x y : Lane) (mine : List Answer) → Sends now bytes text x y mine → Speaks x y
+pub sends-speech : (now : ℕ) (bytes : List ℕ) (text : Bool) (x y : Lane) (mine : List Answer) → Sends now bytes text x y mine → Speaks x y
 sends-speech now bytes text x y mine h = go h.0 h.1 h.3 ∙ put-speech (is_live x.stage) x.protocol bytes text x h.0 h.1 refl h.2 where
   go : (mid : Lane) (b : Bool) → SaysPut now b mid y mine → Speaks mid y
-  go mid true h = ap (λ (l : Lane). is_socket l.protocol) h.2 ∙ gathered-speech mid h.0 mine h.1
+  go mid true h = ap (λ (l : Lane). hears_no_request l.protocol) h.2 ∙ gathered-speech mid h.0 mine h.1
   go mid false h = same-speech mid y h.1
 
-shuts-speech : (now : ℕ) (x y : Lane) (mine : List Answer) → Shuts now x y mine → Speaks x y
+pub shuts-speech : (now : ℕ) (x y : Lane) (mine : List Answer) → Shuts now x y mine → Speaks x y
 shuts-speech now x y mine h = go (is_live x.stage) h where
   go : (b : Bool) → Chooses b (WritesOut (record x { since = now; protocol = protocol_after_shut x.protocol; stage = Closing }) y mine) ((mine ≡ []) × (y ≡ x)) → Speaks x y
   go true h = writes-speech (record x { since = now; protocol = protocol_after_shut x.protocol; stage = Closing }) y mine h ∙ shut-speech x.protocol
@@ -145,38 +161,42 @@ shuts-speech now x y mine h = go (is_live x.stage) h where
 
 -- ---- what is heard of a lane that stays live
 
-abbrev is_lost_in : ℕ → Option Event → Bool
-is_lost_in wire None = false
-is_lost_in wire (Some what) = is_lost_on wire what
+abbrev is_end_in : ℕ → Option Event → Bool
+is_end_in wire None = false
+is_end_in wire (Some what) = is_end_on wire what
 
--- it was live, it waits for a reply if it did or its request was heard, and its loss wasn't heard
-abbrev Stands : Lane → Lane → Bool → Bool → Type 0
-Stands x y requested lost = is_live y.stage ≡ true → (is_live x.stage ≡ true) × (is_busy y.protocol ≡ (requested || is_busy x.protocol)) × (lost ≡ false)
+-- it was live, it waits for a reply if it did or its request was heard, and neither its loss nor a refusal was heard
+abbrev pub Stands : Lane → Lane → Bool → Bool → Type 0
+Stands x y requested ended = is_live y.stage ≡ true → (is_live x.stage ≡ true) × (is_busy y.protocol ≡ (requested || is_busy x.protocol)) × (ended ≡ false)
 
-quiet : (x y : Lane) (requested lost : Bool) → Lives x y → requested ≡ false → lost ≡ false → Stands x y requested lost
-quiet x y requested lost l e f live = let was = l live in (was.0, was.1 ∙ ap (λ b. b || is_busy x.protocol) (sym e), f)
+quiet : (x y : Lane) (requested ended : Bool) → Lives x y → requested ≡ false → ended ≡ false → Stands x y requested ended
+quiet x y requested ended l e f live = let was = l live in (was.0, was.1 ∙ ap (λ b. b || is_busy x.protocol) (sym e), f)
 
 -- the lane that becomes of it isn't live
-over : (x mid after : Lane) (requested lost : Bool) → after ≡ mid → is_live mid.stage ≡ false → Stands x after requested lost
-over x mid after requested lost e f live = absurd (cc (sym f ∙ sym (ap (λ (l : Lane). is_live l.stage) e) ∙ live))
+over : (x mid after : Lane) (requested ended : Bool) → after ≡ mid → is_live mid.stage ≡ false → Stands x after requested ended
+over x mid after requested ended e f live = absurd (cc (sym f ∙ sym (ap (λ (l : Lane). is_live l.stage) e) ∙ live))
 
 settles-stands : (now : ℕ) (x : Lane) (protocol : Protocol) (after : Lane) (read answers : List Answer) (what : Input) (heard : Option Event) → Hears x.wire x.protocol protocol read what →
-    Settles now (after_hearing protocol x) after answers what heard → Stands x after (is_request_in x.wire heard) (is_lost_in x.wire heard)
+    Settles now (after_hearing protocol x) after answers what heard → Stands x after (is_request_in x.wire heard) (is_end_in x.wire heard)
 settles-stands now x protocol after read answers what heard h s = go x.protocol protocol refl what h s where
   Here : Type 0
-  Here = Stands x after (is_request_in x.wire heard) (is_lost_in x.wire heard)
+  Here = Stands x after (is_request_in x.wire heard) (is_end_in x.wire heard)
 
-  passed : (old new : Protocol) (trace : Option Event) → x.protocol ≡ old → is_busy new ≡ (is_request_in x.wire trace || is_busy old) → is_lost_in x.wire trace ≡ false →
-      heard ≡ trace → after ≡ after_hearing new x → Here
-  passed old new trace p e f t g live = (
-    sym (ap (λ (l : Lane). is_live l.stage) g) ∙ live,
-    ap (λ (l : Lane). is_busy l.protocol) g ∙ continue-busy new ∙ e ∙ ap (λ (o : Option Event). is_request_in x.wire o || is_busy old) (sym t)
+  passed-as : (old : Protocol) (mid : Lane) (trace : Option Event) → x.protocol ≡ old → mid.stage ≡ x.stage → is_busy mid.protocol ≡ (is_request_in x.wire trace || is_busy old) →
+      is_end_in x.wire trace ≡ false → heard ≡ trace → after ≡ mid → Here
+  passed-as old mid trace p same e f t g live = (
+    sym (ap (λ (l : Lane). is_live l.stage) g ∙ ap is_live same) ∙ live,
+    ap (λ (l : Lane). is_busy l.protocol) g ∙ e ∙ ap (λ (o : Option Event). is_request_in x.wire o || is_busy old) (sym t)
         ∙ ap (λ (q : Protocol). is_request_in x.wire heard || is_busy q) (sym p),
-    ap (λ (o : Option Event). is_lost_in x.wire o) t ∙ f,
+    ap (λ (o : Option Event). is_end_in x.wire o) t ∙ f,
   )
 
+  passed : (old new : Protocol) (trace : Option Event) → x.protocol ≡ old → is_busy new ≡ (is_request_in x.wire trace || is_busy old) → is_end_in x.wire trace ≡ false →
+      heard ≡ trace → after ≡ after_hearing new x → Here
+  passed old new trace p e f t g = passed-as old (after_hearing new x) trace p refl (continue-busy new ∙ e) f t g
+
   ended : (mid : Lane) → after ≡ mid → is_live mid.stage ≡ false → Here
-  ended mid e f = over x mid after (is_request_in x.wire heard) (is_lost_in x.wire heard) e f
+  ended mid e f = over x mid after (is_request_in x.wire heard) (is_end_in x.wire heard) e f
 
   nothing : (old new : Protocol) → x.protocol ≡ old → is_busy new ≡ is_busy old → (b : Bool) →
       Chooses b (Falls (after_hearing new x) after answers heard) (Passes (after_hearing new x) after answers None heard) → Here
@@ -189,16 +209,33 @@ settles-stands now x protocol after read answers what heard h s = go x.protocol 
       passed (Http old) (Http new) (Some (event.Request x.wire request)) p (h.is_input.2 ∙ sym (ap (λ b. b || old.busy) (same x.wire))) refl s.1 s.2
   go (Http old) (Http new) p (input.Refused refusal) h s = ended _ s.2 refl
   go (Http old) (Http new) p (input.Message bytes) h s = absurd h.is_input
+  go (Http old) (Http new) p (input.Response status body) h s = absurd h.is_input
+  go (Http old) (Http new) p input.Upgraded h s = absurd h.is_input
   go (Http old) (Http new) p input.Broken h s = ended _ s.2 refl
   go (Http old) (Http new) p input.Gone h s = absurd h.is_input
+  go (Response old) (Response new) p input.Nothing h s = nothing (Response old) (Response new) p refl (is_overdue now (after_hearing (Response new) x)) s
+  go (Response old) (Response new) p (input.Request request) h s = absurd h.is_input
+  go (Response old) (Response new) p (input.Refused refusal) h s = absurd h.is_input
+  go (Response old) (Response new) p (input.Response status body) h s = passed (Response old) (Response new) (Some (event.Response x.wire status body)) p refl refl s.1 s.2
+  go (Response old) (Response new) p input.Upgraded h s =
+      passed-as (Response old) _ (Some (event.Upgraded x.wire)) p refl (upgrade-busy (Response new)) refl s.1 s.2
+  go (Response old) (Response new) p (input.Message bytes) h s = absurd h.is_input
+  go (Response old) (Response new) p input.Broken h s = ended _ s.2 refl
+  go (Response old) (Response new) p input.Gone h s = absurd h.is_input
   go (Socket old) (Socket new) p input.Nothing h s = nothing (Socket old) (Socket new) p refl (is_overdue now (after_hearing (Socket new) x)) s
   go (Socket old) (Socket new) p (input.Request request) h s = absurd h.is_input
   go (Socket old) (Socket new) p (input.Refused refusal) h s = absurd h.is_input
+  go (Socket old) (Socket new) p (input.Response status body) h s = absurd h.is_input
+  go (Socket old) (Socket new) p input.Upgraded h s = absurd h.is_input
   go (Socket old) (Socket new) p (input.Message bytes) h s = passed (Socket old) (Socket new) (Some (event.Bytes x.wire bytes)) p refl refl s.1 s.2
   go (Socket old) (Socket new) p input.Broken h s = ended _ s.2 refl
   go (Socket old) (Socket new) p input.Gone h s = ended _ s.2 refl
   go (Http old) (Socket new) p what h s = absurd h
   go (Socket old) (Http new) p what h s = absurd h
+  go (Response old) (Http new) p what h s = absurd h
+  go (Response old) (Socket new) p what h s = absurd h
+  go (Http old) (Response new) p what h s = absurd h
+  go (Socket old) (Response new) p what h s = absurd h
 
 -- of a lane that stays live nothing more is heard than what its input was
 loses-nothing : (trace : Option Event) (x y : Lane) (heard : Option Event) → Loses trace x y heard → is_live y.stage ≡ true → heard ≡ trace
@@ -210,7 +247,7 @@ loses-nothing None x y heard h live = go x.stage h where
   go Closing h = h.0
   go Over h = h.0
 
-live-stands : (now : ℕ) (x y : Lane) (mine : List Answer) (own : Option Event) → TurnsLive now x y mine own → Stands x y (is_request_in x.wire own) (is_lost_in x.wire own)
+live-stands : (now : ℕ) (x y : Lane) (mine : List Answer) (own : Option Event) → TurnsLive now x y mine own → Stands x y (is_request_in x.wire own) (is_end_in x.wire own)
 live-stands now x y mine own h live =
     let said = loses-live h.trace h.said y own h.loses live in
     let settled = says-live now h.settled h.said h.written h.says said.0 in
@@ -218,17 +255,17 @@ live-stands now x y mine own h live =
     let e : own ≡ h.trace = loses-nothing h.trace h.said y own h.loses live in (
       was.0,
       said.1 ∙ settled.1 ∙ was.1 ∙ ap (λ (o : Option Event). is_request_in x.wire o || is_busy x.protocol) (sym e),
-      ap (λ (o : Option Event). is_lost_in x.wire o) e ∙ was.2,
+      ap (λ (o : Option Event). is_end_in x.wire o) e ∙ was.2,
     )
 
-listens-stands : (now : ℕ) (x y : Lane) (mine : List Answer) (own : Option Event) → Listens now x y mine own → Stands x y (is_request_in x.wire own) (is_lost_in x.wire own)
+listens-stands : (now : ℕ) (x y : Lane) (mine : List Answer) (own : Option Event) → Listens now x y mine own → Stands x y (is_request_in x.wire own) (is_end_in x.wire own)
 listens-stands now x y mine own h = go x.stage refl h where
-  unheard : own ≡ None → Lives x y → Stands x y (is_request_in x.wire own) (is_lost_in x.wire own)
-  unheard e l = quiet x y _ _ l (ap (λ (o : Option Event). is_request_in x.wire o) e) (ap (λ (o : Option Event). is_lost_in x.wire o) e)
+  unheard : own ≡ None → Lives x y → Stands x y (is_request_in x.wire own) (is_end_in x.wire own)
+  unheard e l = quiet x y _ _ l (ap (λ (o : Option Event). is_request_in x.wire o) e) (ap (λ (o : Option Event). is_end_in x.wire o) e)
 
-  go : (s : Stage) → x.stage ≡ s → TurnsAt s now x y mine own → Stands x y (is_request_in x.wire own) (is_lost_in x.wire own)
-  go Live e h = by-fullness (λ (l : Lane). Stands x l (is_request_in x.wire own) (is_lost_in x.wire own)) now x y mine own
-      (λ d f s. quiet x y _ _ (says-live now (record x { full = None }) y mine s) (ap (λ (o : Option Event). is_request_in x.wire o) f) (ap (λ (o : Option Event). is_lost_in x.wire o) f))
+  go : (s : Stage) → x.stage ≡ s → TurnsAt s now x y mine own → Stands x y (is_request_in x.wire own) (is_end_in x.wire own)
+  go Live e h = by-fullness (λ (l : Lane). Stands x l (is_request_in x.wire own) (is_end_in x.wire own)) now x y mine own
+      (λ d f s. quiet x y _ _ (says-live now (record x { full = None }) y mine s) (ap (λ (o : Option Event). is_request_in x.wire o) f) (ap (λ (o : Option Event). is_end_in x.wire o) f))
       (λ s f. over x (record x { stage = Over }) y _ _ f.2 refl)
       (λ mid t. live-stands now x mid mine own t)
       h
@@ -236,26 +273,36 @@ listens-stands now x y mine own h = go x.stage refl h where
   go Closing e h = unheard h.0 (says-live now x y mine h.1)
   go Over e h = over x x y _ _ h.2 (ap is_live e)
 
-not-lost : (wire : ℕ) (what : Event) → is_on wire what ≡ false → is_lost_on wire what ≡ false
-not-lost wire (event.Request at request) h = refl
-not-lost wire (event.Refused at refusal) h = refl
-not-lost wire (event.Bytes at bytes) h = refl
-not-lost wire (event.Response at status body) h = refl
-not-lost wire (event.Upgraded at) h = refl
-not-lost wire (event.Lost at) h = h
-not-lost wire (event.Drained at) h = refl
-not-lost wire event.Quiet h = refl
+not-end : (wire : ℕ) (what : Event) → is_on wire what ≡ false → is_end_on wire what ≡ false
+not-end wire (event.Request at request) h = refl
+not-end wire (event.Refused at refusal) h = h
+not-end wire (event.Bytes at bytes) h = refl
+not-end wire (event.Response at status body) h = refl
+not-end wire (event.Upgraded at) h = refl
+not-end wire (event.Lost at) h = h
+not-end wire (event.Drained at) h = refl
+not-end wire event.Quiet h = refl
 
-heard-lost : (wire : ℕ) (own : Option Event) (what : Event) → IsHeard wire own what → is_lost_on wire what ≡ is_lost_in wire own
-heard-lost wire None what h = not-lost wire what h
-heard-lost wire (Some trace) what h = ap (λ v. is_lost_on wire v) h
+heard-end : (wire : ℕ) (own : Option Event) (what : Event) → IsHeard wire own what → is_end_on wire what ≡ is_end_in wire own
+heard-end wire None what h = not-end wire what h
+heard-end wire (Some trace) what h = ap (λ v. is_end_on wire v) h
 
-heeds-stands : (now : ℕ) (what : Event) (x y : Lane) (mine : List Answer) → Heeds now what x y mine → Stands x y (is_request_on x.wire what) (is_lost_on x.wire what)
+pub heeds-stands : (now : ℕ) (what : Event) (x y : Lane) (mine : List Answer) → Heeds now what x y mine → Stands x y (is_request_on x.wire what) (is_end_on x.wire what)
 heeds-stands now what x y mine (inl h) live =
     let was = listens-stands now x y mine h.0 h.1 live in
-    (was.0, was.1 ∙ ap (λ b. b || is_busy x.protocol) (sym (heard-request x.wire h.0 what h.2)), heard-lost x.wire h.0 what h.2 ∙ was.2)
+    (was.0, was.1 ∙ ap (λ b. b || is_busy x.protocol) (sym (heard-request x.wire h.0 what h.2)), heard-end x.wire h.0 what h.2 ∙ was.2)
 heeds-stands now what x y mine (inr h) live =
-    quiet x y (is_request_on x.wire what) (is_lost_on x.wire what) (bystander-live now x y mine h.0) (not-request x.wire what h.1) (not-lost x.wire what h.1) live
+    quiet x y (is_request_on x.wire what) (is_end_on x.wire what) (bystander-live now x y mine h.0) (not-request x.wire what h.1) (not-end x.wire what h.1) live
+
+pub end-lost : (wire : ℕ) (what : Event) → is_end_on wire what ≡ false → is_lost_on wire what ≡ false
+end-lost wire (event.Request at request) h = refl
+end-lost wire (event.Refused at refusal) h = refl
+end-lost wire (event.Bytes at bytes) h = refl
+end-lost wire (event.Response at status body) h = refl
+end-lost wire (event.Upgraded at) h = refl
+end-lost wire (event.Lost at) h = h
+end-lost wire (event.Drained at) h = refl
+end-lost wire event.Quiet h = refl
 
 -- ---- replies
 
@@ -266,33 +313,35 @@ replied-stage now reply x = go (reply.status == SWITCHING) where
   go true = refl
   go false = refl
 
--- a lane of requests is a WebSocket after an upgrade
-replied-speech : (now : ℕ) (reply : Reply) (x : Lane) → is_socket x.protocol ≡ false → is_socket (after_reply now reply x).protocol ≡ (reply.status == SWITCHING)
+-- a lane of requests is none after an upgrade
+pub replied-speech : (now : ℕ) (reply : Reply) (x : Lane) → hears_no_request x.protocol ≡ false → hears_no_request (after_reply now reply x).protocol ≡ (reply.status == SWITCHING)
 replied-speech now reply x e = go (reply.status == SWITCHING) where
-  still : (protocol : Protocol) → is_socket (protocol_after_reply protocol) ≡ is_socket protocol
+  still : (protocol : Protocol) → hears_no_request (protocol_after_reply protocol) ≡ hears_no_request protocol
   still (Http http_state) = refl
+  still (Response response_state) = refl
   still (Socket websocket_state) = refl
 
-  go : (b : Bool) → is_socket (if b then record x { protocol = new_socket (rest_of x.protocol); out = x.out ++ reply_text reply }
+  go : (b : Bool) → hears_no_request (if b then record x { protocol = new_socket (rest_of x.protocol); out = x.out ++ reply_text reply }
       else record x { protocol = protocol_after_reply x.protocol; out = x.out ++ reply_text reply; since = now }).protocol ≡ b
   go true = refl
   go false = still x.protocol ∙ e
 
-busy-speech : (protocol : Protocol) → is_busy protocol ≡ true → is_socket protocol ≡ false
+pub busy-speech : (protocol : Protocol) → is_busy protocol ≡ true → hears_no_request protocol ≡ false
 busy-speech (Http http_state) e = refl
+busy-speech (Response response_state) e = absurd (cc e)
 busy-speech (Socket websocket_state) e = absurd (cc e)
 
-replies-were-live : (now : ℕ) (reply : Reply) (x y : Lane) (mine : List Answer) → Replies now reply x y mine → is_live y.stage ≡ true → is_live x.stage ≡ true
+pub replies-were-live : (now : ℕ) (reply : Reply) (x y : Lane) (mine : List Answer) → Replies now reply x y mine → is_live y.stage ≡ true → is_live x.stage ≡ true
 replies-were-live now reply x y mine h live = go (owes x) h where
   go : (b : Bool) → Chooses b (SaysMore (after_reply now reply x) y mine) ((mine ≡ []) × (y ≡ x)) → is_live x.stage ≡ true
   go true h = sym (ap is_live (replied-stage now reply x)) ∙ (more-live (after_reply now reply x) y mine h live).0
   go false h = (same-lives x y h.1 live).0
 
 -- a lane that waits for its reply is given it
-replies-stand : (now : ℕ) (reply : Reply) (x y : Lane) (mine : List Answer) → Replies now reply x y mine → owes x ≡ true → is_socket x.protocol ≡ false → is_live y.stage ≡ true →
-    (is_busy y.protocol ≡ false) × (is_socket y.protocol ≡ (reply.status == SWITCHING))
+replies-stand : (now : ℕ) (reply : Reply) (x y : Lane) (mine : List Answer) → Replies now reply x y mine → owes x ≡ true → hears_no_request x.protocol ≡ false → is_live y.stage ≡ true →
+    (is_busy y.protocol ≡ false) × (hears_no_request y.protocol ≡ (reply.status == SWITCHING))
 replies-stand now reply x y mine h e f live = go (subst (λ b. Chooses b (SaysMore (after_reply now reply x) y mine) ((mine ≡ []) × (y ≡ x))) e h) where
-  go : SaysMore (after_reply now reply x) y mine → (is_busy y.protocol ≡ false) × (is_socket y.protocol ≡ (reply.status == SWITCHING))
+  go : SaysMore (after_reply now reply x) y mine → (is_busy y.protocol ≡ false) × (hears_no_request y.protocol ≡ (reply.status == SWITCHING))
   go h =
       let was = more-live (after_reply now reply x) y mine h live in (
         was.1 ∙ sym (live-busy (after_reply now reply x) was.0) ∙ replied-owes now reply x,
@@ -302,10 +351,10 @@ replies-stand now reply x y mine h e f live = go (subst (λ b. Chooses b (SaysMo
 -- ---- sessions
 
 -- a live lane stands as the caller knows, if that replies only where it is awaited
-abbrev IsKnown : List Call → Lane → ℕ → Type 0
-IsKnown calls lane wire = (awaits_on wire calls ≡ is_busy lane.protocol) × (upgraded_on wire calls ≡ is_socket lane.protocol)
+abbrev pub IsKnown : List Call → Lane → ℕ → Type 0
+IsKnown calls lane wire = (awaits_on wire calls ≡ is_busy lane.protocol) × (upgraded_on wire calls ≡ hears_no_request lane.protocol)
 
-abbrev IsAsKnown : List Call → Lane → Type 0
+abbrev pub IsAsKnown : List Call → Lane → Type 0
 IsAsKnown calls lane = AreAwaited calls → is_live lane.stage ≡ true → IsKnown calls lane lane.wire
 
 or-false : (b : Bool) → (b || false) ≡ b
@@ -315,7 +364,7 @@ or-false false = refl
 -- a reply that is awaited on the lane
 known-reply : (calls : List Call) (now at : ℕ) (reply : Reply) (x y : Lane) (mine : List Answer) → IsAsKnown calls x → AreAwaited calls → awaits_on at calls ≡ true → (at == x.wire) ≡ true →
     Replies now reply x y mine → is_live y.stage ≡ true →
-    ((not true && awaits_on x.wire calls) ≡ is_busy y.protocol) × (((true && (reply.status == SWITCHING)) || upgraded_on x.wire calls) ≡ is_socket y.protocol)
+    ((not true && awaits_on x.wire calls) ≡ is_busy y.protocol) × (((true && (reply.status == SWITCHING)) || upgraded_on x.wire calls) ≡ hears_no_request y.protocol)
 known-reply calls now at reply x y mine known all awaited e h live =
     let was = replies-were-live now reply x y mine h live in
     let k = known all was in
@@ -329,17 +378,18 @@ known-reply calls now at reply x y mine known all awaited e h live =
 known-here : (call : Call) (calls : List Call) (x y : Lane) → IsAsKnown calls x → Moves call x y → AreAwaited (call ∷ calls) → is_live y.stage ≡ true → IsKnown (call ∷ calls) y x.wire
 known-here (session.heard what answers) calls x y known h all live =
     let was = heeds-stands what.now what.event x y _ h live in
+    let there = end-lost x.wire what.event was.2 in
     let k = known all was.0 in (
-      ap (λ b. is_request_on x.wire what.event || (not b && awaits_on x.wire calls)) was.2 ∙ ap (λ b. is_request_on x.wire what.event || b) k.0 ∙ sym was.1,
-      ap (λ b. not b && upgraded_on x.wire calls) was.2 ∙ k.1 ∙ sym (heeds-speech what.now what.event x y _ h),
+      ap (λ b. is_request_on x.wire what.event || (not b && awaits_on x.wire calls)) there ∙ ap (λ b. is_request_on x.wire what.event || b) k.0 ∙ sym was.1,
+      ap (λ b. not b && upgraded_on x.wire calls) there ∙ k.1 ∙ sym (heeds-speech what.now what.event x y _ h),
     )
 known-here (session.replied at reply answers) calls x y known h all live =
     by-number at (Replies h.0 reply) x y _
-    (λ b. (at == x.wire) ≡ b → ((not b && awaits_on x.wire calls) ≡ is_busy y.protocol) × (((b && (reply.status == SWITCHING)) || upgraded_on x.wire calls) ≡ is_socket y.protocol))
+    (λ b. (at == x.wire) ≡ b → ((not b && awaits_on x.wire calls) ≡ is_busy y.protocol) × (((b && (reply.status == SWITCHING)) || upgraded_on x.wire calls) ≡ hears_no_request y.protocol))
     (λ r e. known-reply calls h.0 at reply x y _ known all.1 all.0 e r live)
     (λ s m e. stays s)
     h.1 refl where
-      stays : y ≡ x → (awaits_on x.wire calls ≡ is_busy y.protocol) × (upgraded_on x.wire calls ≡ is_socket y.protocol)
+      stays : y ≡ x → (awaits_on x.wire calls ≡ is_busy y.protocol) × (upgraded_on x.wire calls ≡ hears_no_request y.protocol)
       stays s = let k = known all.1 (sym (ap (λ (l : Lane). is_live l.stage) s) ∙ live) in (k.0 ∙ sym (ap (λ (l : Lane). is_busy l.protocol) s), k.1 ∙ sym (same-speech x y s))
 known-here (session.sent at bytes text full answers) calls x y known h all live =
     by-number at (Sends h.0 bytes text) x y _ (λ b. IsKnown calls y x.wire)
@@ -356,12 +406,12 @@ known-here (session.wrote at answers) calls x y known h all live =
     let k = known all was.0 in
     (k.0 ∙ sym was.1, k.1 ∙ sym (bystander-speech 0 x y _ h))
 
-step-known : (call : Call) (calls : List Call) (x y : Lane) → IsAsKnown calls x → Moves call x y → IsAsKnown (call ∷ calls) y
+pub step-known : (call : Call) (calls : List Call) (x y : Lane) → IsAsKnown calls x → Moves call x y → IsAsKnown (call ∷ calls) y
 step-known call calls x y known h all live = subst (λ n. IsKnown (call ∷ calls) y n) (sym (moves-wire call x y h)) (known-here call calls x y known h all live)
 
 -- ---- new lanes
 
-no-parts : {A : Type 0} (xs ys : List A) → xs ++ ys ≡ [] → (xs ≡ []) × (ys ≡ [])
+pub no-parts : {A : Type 0} (xs ys : List A) → xs ++ ys ≡ [] → (xs ≡ []) × (ys ≡ [])
 no-parts [] ys e = (refl, e)
 no-parts (x ∷ xs) ys e = absurd (cc e)
 
@@ -405,7 +455,7 @@ ungiven lane (session.sent at bytes text full answers ∷ calls) e all = ungiven
 ungiven lane (session.shut at answers ∷ calls) e all = ungiven lane calls e all
 ungiven lane (session.wrote at answers ∷ calls) e all = ungiven lane calls e all
 
-new-known : (calls : List Call) (now wire : ℕ) → IsUntouched wire calls → IsAsKnown calls (new_lane now wire)
+pub new-known : (calls : List Call) (now wire : ℕ) → IsUntouched wire calls → IsAsKnown calls (new_lane now wire)
 new-known calls now wire h all live = (unawaited wire calls h.requests, ungiven wire calls h.requests all)
 
 pub requests-are-free : RequestsAreFree

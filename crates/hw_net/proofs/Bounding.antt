@@ -9,7 +9,7 @@ use Rattle.hw_socket.specs.Masks.{Written}
 use Rattle.hw_socket.specs.Sending as sending
 use Rattle.hw_net.specs.declared.limits.TheConstants.{MOST_CLOSING, MOST_UNWRITTEN}
 use Rattle.hw_net.specs.declared.protocol.Protocol.{Protocol}
-use Rattle.hw_net.specs.declared.protocol.Protocol.TheVariants.{Http, Socket}
+use Rattle.hw_net.specs.declared.protocol.Protocol.TheVariants.{Http, Response, Socket}
 use Rattle.hw_net.specs.declared.protocol.Stage.{Stage}
 use Rattle.hw_net.specs.declared.protocol.Stage.TheVariants.{Live, Lost, Closing, Over}
 use Rattle.hw_net.specs.Bounds.{has_wire, IsWithin, EachIs, AreWithin, IsInTime, NextIsWithin, NextIsInTime, FailsAreWithin, FlushesAreWithin, RepliesAreWithin, SendsAreWithin, ShutsAreWithin}
@@ -343,6 +343,7 @@ unput true (Socket websocket_state) bytes text before after e h =
       ap waits h.2 ∙ ap (λ (o : Written). before.out ++ o.bytes) out ∙ sym (ap (λ (t : Protocol). before.out ++ frames_of t) e),
     )
 unput true (Http http_state) bytes text before after e h = (ap (λ (l : Lane). l.stage) h.1, ap waits h.1)
+unput true (Response response_state) bytes text before after e h = (ap (λ (l : Lane). l.stage) h.1, ap waits h.1)
 unput false protocol bytes text before after e h = (ap (λ (l : Lane). l.stage) h.1, ap waits h.1)
 
 is-little : (n : ℕ) → is_gathered n ≡ true → n ≤ MOST_UNWRITTEN

@@ -12,7 +12,7 @@ use Rattle.hw_net.specs.declared.limits.TheConstants.{PIECE}
 use Rattle.hw_net.specs.declared.input.Input.{Input}
 use Rattle.hw_net.specs.declared.input.Input.TheVariants as input
 use Rattle.hw_net.specs.declared.protocol.Protocol.{Protocol}
-use Rattle.hw_net.specs.declared.protocol.Protocol.TheVariants.{Http, Socket}
+use Rattle.hw_net.specs.declared.protocol.Protocol.TheVariants.{Http, Response, Socket}
 use Rattle.hw_net.specs.declared.protocol.Stage.{Stage}
 use Rattle.hw_net.specs.declared.protocol.Stage.TheVariants.{Live}
 use Rattle.hw_net.specs.FirstReads.{ReadsFirst, ReadsFirstAt, IsCalmLane, IsCalmProtocol}
@@ -58,6 +58,7 @@ still-hears wire websocket_state answer calm h =
 
 still-input : (wire : ℕ) (protocol : Protocol) (answer : Answer) → IsCalmProtocol protocol → Reads wire PIECE answer (Some []) → Hears wire protocol protocol (answer ∷ []) input.Nothing
 still-input wire (Http http_state) answer calm h = absurd calm
+still-input wire (Response response_state) answer calm h = absurd calm
 still-input wire (Socket websocket_state) answer calm h = still-hears wire websocket_state answer calm h
 
 pub calm-input : (lane : Lane) (first : List Answer) (buf : List ℕ) → ReadsFirst lane first buf NothingRead → Hears lane.wire lane.protocol lane.protocol first input.Nothing
@@ -66,10 +67,12 @@ calm-input lane first buf h =
 
 in-time : (now since : ℕ) (protocol : Protocol) → IsCalmProtocol protocol → is_late now since protocol ≡ false
 in-time now since (Http http_state) calm = absurd calm
+in-time now since (Response response_state) calm = absurd calm
 in-time now since (Socket websocket_state) calm = refl
 
 frameless : (protocol : Protocol) → IsCalmProtocol protocol → frames_of protocol ≡ []
 frameless (Http http_state) calm = absurd calm
+frameless (Response response_state) calm = absurd calm
 frameless (Socket websocket_state) calm = calm.written
 
 nothing-unwritten : (lane : Lane) → IsCalmLane lane → has_unwritten lane ≡ false
@@ -90,6 +93,7 @@ calm-hearing : (lane : Lane) → IsCalmProtocol lane.protocol → after_hearing 
 calm-hearing lane calm = go lane.protocol refl calm where
   go : (protocol : Protocol) → lane.protocol ≡ protocol → IsCalmProtocol protocol → after_hearing protocol lane ≡ lane
   go (Http http_state) e calm = absurd calm
+  go (Response response_state) e calm = absurd calm
   go (Socket websocket_state) e calm = ap (λ (t : Protocol). record lane { protocol = t }) (sym e)
 
 -- a lane that isn't full has neither drained nor stalled

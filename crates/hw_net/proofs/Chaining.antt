@@ -159,10 +159,10 @@ one-call bound faults all (door.failed (door.to_say what) error.NoMemory) before
 one-call bound faults all (door.failed (door.to_say what) error.Failed) before after answers s h e = absurd h
 one-call bound faults all (door.failed (door.to_hear wait) why) before after answers s h e = absurd (cc e)
 one-call bound faults all (door.given (say.Bytes lane bytes text) is_said) before after answers s h e = absurd h
-one-call bound faults all (door.given (say.Ask lane method target upgrade) is_said) before after answers s h e = absurd h
+one-call bound faults all (door.given (say.Ask lane place method target upgrade) is_said) before after answers s h e = absurd h
 one-call bound faults all (door.sent (say.Reply lane reply) is_said full) before after answers s h e = absurd h
 one-call bound faults all (door.sent (say.Shut lane) is_said full) before after answers s h e = absurd h
-one-call bound faults all (door.sent (say.Ask lane method target upgrade) is_said full) before after answers s h e = absurd h
+one-call bound faults all (door.sent (say.Ask lane place method target upgrade) is_said full) before after answers s h e = absurd h
 
 -- ---- all calls
 

@@ -9,7 +9,7 @@ use Rattle.hw_net.specs.declared.limits.TheConstants.{SWITCHING}
 use Rattle.hw_net.specs.declared.input.Input.{Input}
 use Rattle.hw_net.specs.declared.input.Input.TheVariants as input
 use Rattle.hw_net.specs.declared.protocol.Protocol.{Protocol}
-use Rattle.hw_net.specs.declared.protocol.Protocol.TheVariants.{Http, Socket}
+use Rattle.hw_net.specs.declared.protocol.Protocol.TheVariants.{Http, Response, Socket}
 use Rattle.hw_net.specs.declared.protocol.Stage.{Stage}
 use Rattle.hw_net.specs.declared.protocol.Stage.TheVariants.{Live, Lost, Closing, Over}
 use Rattle.hw_net.specs.Bounds.{has_wire}
@@ -108,7 +108,7 @@ none-before w (x ∷ before) after h = go (was_shut_in w (x ∷ [])) refl (none-
 -- ---- what becomes of a lane in a call
 
 -- its loss or refusal was heard, or it was shut by the caller
-abbrev is_done : Stage → Bool
+abbrev pub is_done : Stage → Bool
 is_done Live = false
 is_done Lost = false
 is_done Closing = true
@@ -236,6 +236,8 @@ settles-settled now x after shut what trace live s = go what s where
   go input.Nothing s = nothing (is_overdue now x) s
   go (input.Request request) s = passes-settled x.wire x after shut _ trace has (λ d. undone d) s
   go (input.Refused refusal) s = passes-settled x.wire _ after shut _ trace refl (λ d. same x.wire) s
+  go (input.Response status body) s = passes-settled x.wire x after shut _ trace has (λ d. undone d) s
+  go input.Upgraded s = passes-settled x.wire _ after shut _ trace has (λ d. undone d) s
   go (input.Message bytes) s = passes-settled x.wire x after shut _ trace has (λ d. undone d) s
   go input.Broken s = falls-settled x after shut trace s
   go input.Gone s = passes-settled x.wire _ after shut _ trace refl (λ d. same x.wire) s
@@ -411,6 +413,7 @@ replies-close now reply x y mine h = go (owes x) refl h where
 pub put-stage : (live : Bool) (protocol : Protocol) (bytes : List ℕ) (text : Bool) (x mid : Lane) (is_put : Bool) → PutsAt live protocol bytes text x mid is_put → (mid.stage ≡ x.stage) × (is_put ≡ true → live ≡ true)
 put-stage true (Socket websocket_state) bytes text x mid is_put h = (ap (λ (l : Lane). l.stage) h.2, λ e. refl)
 put-stage true (Http http_state) bytes text x mid is_put h = (ap (λ (l : Lane). l.stage) h.1, λ e. refl)
+put-stage true (Response response_state) bytes text x mid is_put h = (ap (λ (l : Lane). l.stage) h.1, λ e. refl)
 put-stage false protocol bytes text x mid is_put h = (ap (λ (l : Lane). l.stage) h.1, λ e. absurd (cc (sym h.0 ∙ e)))
 
 sends-close : (now : ℕ) (bytes : List ℕ) (text : Bool) (x y : Lane) (mine : List Answer) → Sends now bytes text x y mine → Closes x.wire x.stage y.stage mine false
@@ -439,14 +442,14 @@ shuts-close now x y mine h = go (is_live x.stage) refl h where
 -- ---- sessions
 
 -- the call ends the lane
-abbrev ends_by : ℕ → Call → Bool
+abbrev pub ends_by : ℕ → Call → Bool
 ends_by wire (session.heard what answers) = is_end_on wire what.event
 ends_by wire (session.replied at reply answers) = false
 ends_by wire (session.sent at bytes text full answers) = false
 ends_by wire (session.shut at answers) = at == wire
 ends_by wire (session.wrote at answers) = false
 
-moves-close : (call : Call) (x y : Lane) → Moves call x y → Closes x.wire x.stage y.stage (share x.wire (answers_in call)) (ends_by x.wire call)
+pub moves-close : (call : Call) (x y : Lane) → Moves call x y → Closes x.wire x.stage y.stage (share x.wire (answers_in call)) (ends_by x.wire call)
 moves-close (session.heard what answers) x y h = heeds-close what.now what.event x y (share x.wire answers) h
 moves-close (session.replied at reply answers) x y h =
     by-number at (Replies h.0 reply) x y (share x.wire answers) (λ b. Closes x.wire x.stage y.stage (share x.wire answers) false)

@@ -9,7 +9,7 @@ use Rattle.hw_net.specs.declared.limits.TheConstants.{SWITCHING}
 use Rattle.hw_net.specs.declared.input.Input.{Input}
 use Rattle.hw_net.specs.declared.input.Input.TheVariants as input
 use Rattle.hw_net.specs.declared.protocol.Protocol.{Protocol}
-use Rattle.hw_net.specs.declared.protocol.Protocol.TheVariants.{Http, Socket}
+use Rattle.hw_net.specs.declared.protocol.Protocol.TheVariants.{Http, Response, Socket}
 use Rattle.hw_net.specs.declared.protocol.Stage.{Stage}
 use Rattle.hw_net.specs.declared.protocol.Stage.TheVariants.{Live, Lost, Closing, Over}
 use Rattle.hw_net.specs.HttpState.{HttpStateView, requests_of}
@@ -22,7 +22,7 @@ use Rattle.hw_net.specs.Trace.{Chooses}
 use Rattle.hw_net.specs.Turn.{Hears, Falls, Passes, Settles, Loses, LosesAt, TurnsLive, TurnsAt, Listens, Replies, PutsAt, Sends, Shuts}
 use Rattle.hw_net.proofs.Asked.{requests_in, settles-requests, loses-requests, heard-requests, requests_by, requests-more}
 use Rattle.hw_net.proofs.Bystanders.{SaysOrStays, Stays, gathered-says}
-use Rattle.hw_net.proofs.Ends.{writes-end, speaks-busy, replied-owes, Ends, dropped-or-end, continue-busy}
+use Rattle.hw_net.proofs.Ends.{writes-end, speaks-busy, replied-owes, Ends, dropped-or-end, continue-busy, upgrade-busy}
 use Rattle.hw_net.proofs.Fullness.{by-fullness, SaysPut}
 use Rattle.hw_net.proofs.Owed.{IsOwed, step-owed, new-owed, by-number, replies_by, replies-more}
 use Rattle.hw_net.proofs.Owning.{is_on}
@@ -117,12 +117,15 @@ gone x mid after requests replies e f n m k live = absurd (cc (sym f ∙ sym (ap
 settles-even : (now : ℕ) (x : Lane) (protocol : Protocol) (after : Lane) (read answers : List Answer) (what : Input) (heard : Option Event) → Hears x.wire x.protocol protocol read what → Settles now (after_hearing protocol x) after answers what heard →
     StaysEven x after (length (requests_of what)) (length (refusals_of what))
 settles-even now x protocol after read answers what heard h s n m k = go x.protocol protocol what h s k where
-  kept : (old new : Protocol) → is_busy new ≡ is_busy old → (l : Lane) → l ≡ after_hearing new x → (is_live x.stage ≡ true → n ≡ m + busy_count old) → is_live l.stage ≡ true → n + 0 ≡ m + 0 + busy_count l.protocol
-  kept old new e l f k live =
-      let was : is_live x.stage ≡ true = sym (ap (λ (l : Lane). is_live l.stage) f) ∙ live in
-      let count : busy_count l.protocol ≡ busy_count old = ap (λ (l : Lane). busy_count l.protocol) f ∙ ap (λ b. if b then 1 else 0) (continue-busy new ∙ e) in
+  kept-as : (old : Protocol) (mid l : Lane) → mid.stage ≡ x.stage → is_busy mid.protocol ≡ is_busy old → l ≡ mid → (is_live x.stage ≡ true → n ≡ m + busy_count old) → is_live l.stage ≡ true → n + 0 ≡ m + 0 + busy_count l.protocol
+  kept-as old mid l same e f k live =
+      let was : is_live x.stage ≡ true = sym (ap (λ (l : Lane). is_live l.stage) f ∙ ap is_live same) ∙ live in
+      let count : busy_count l.protocol ≡ busy_count old = ap (λ (l : Lane). busy_count l.protocol) f ∙ ap (λ b. if b then 1 else 0) e in
       let before : n ≡ m + busy_count old = k was in
       omega (arith, count, before)
+
+  kept : (old new : Protocol) → is_busy new ≡ is_busy old → (l : Lane) → l ≡ after_hearing new x → (is_live x.stage ≡ true → n ≡ m + busy_count old) → is_live l.stage ≡ true → n + 0 ≡ m + 0 + busy_count l.protocol
+  kept old new e l f k live = kept-as old (after_hearing new x) l refl (continue-busy new ∙ e) f k live
 
   asked : (old new : HttpStateView) → old.busy ≡ false → new.busy ≡ true → (l : Lane) → l ≡ after_hearing (Http new) x → (is_live x.stage ≡ true → n ≡ m + busy_count (Http old)) → is_live l.stage ≡ true → n + 1 ≡ m + 0 + busy_count l.protocol
   asked old new e f l g k live =
@@ -146,16 +149,32 @@ settles-even now x protocol after read answers what heard h s n m k = go x.proto
   go (Http old) (Http new) (input.Request request) h s k = asked old new h.is_input.1 h.is_input.2 after s.2 k
   go (Http old) (Http new) (input.Refused refusal) h s k = over _ 0 1 s.2 refl
   go (Http old) (Http new) (input.Message bytes) h s k = absurd h.is_input
+  go (Http old) (Http new) (input.Response status body) h s k = absurd h.is_input
+  go (Http old) (Http new) input.Upgraded h s k = absurd h.is_input
   go (Http old) (Http new) input.Broken h s k = over _ 0 0 s.2 refl
   go (Http old) (Http new) input.Gone h s k = absurd h.is_input
+  go (Response old) (Response new) input.Nothing h s k = nothing (Response old) (Response new) refl k (is_overdue now (after_hearing (Response new) x)) s
+  go (Response old) (Response new) (input.Request request) h s k = absurd h.is_input
+  go (Response old) (Response new) (input.Refused refusal) h s k = absurd h.is_input
+  go (Response old) (Response new) (input.Response status body) h s k = kept (Response old) (Response new) refl after s.2 k
+  go (Response old) (Response new) input.Upgraded h s k = kept-as (Response old) _ after refl (upgrade-busy (Response new)) s.2 k
+  go (Response old) (Response new) (input.Message bytes) h s k = absurd h.is_input
+  go (Response old) (Response new) input.Broken h s k = over _ 0 0 s.2 refl
+  go (Response old) (Response new) input.Gone h s k = absurd h.is_input
   go (Socket old) (Socket new) input.Nothing h s k = nothing (Socket old) (Socket new) refl k (is_overdue now (after_hearing (Socket new) x)) s
   go (Socket old) (Socket new) (input.Request request) h s k = absurd h.is_input
   go (Socket old) (Socket new) (input.Refused refusal) h s k = absurd h.is_input
+  go (Socket old) (Socket new) (input.Response status body) h s k = absurd h.is_input
+  go (Socket old) (Socket new) input.Upgraded h s k = absurd h.is_input
   go (Socket old) (Socket new) (input.Message bytes) h s k = kept (Socket old) (Socket new) refl after s.2 k
   go (Socket old) (Socket new) input.Broken h s k = over _ 0 0 s.2 refl
   go (Socket old) (Socket new) input.Gone h s k = over _ 0 0 s.2 refl
   go (Http old) (Socket new) what h s k = absurd h
   go (Socket old) (Http new) what h s k = absurd h
+  go (Response old) (Http new) what h s k = absurd h
+  go (Response old) (Socket new) what h s k = absurd h
+  go (Http old) (Response new) what h s k = absurd h
+  go (Socket old) (Response new) what h s k = absurd h
 
 even-on : (x y z : Lane) (requests replies : ℕ) → StaysEven x y requests replies → Lives y z → StaysEven x z requests replies
 even-on x y z requests replies f l n m k live =
@@ -228,6 +247,7 @@ put-lives : (live : Bool) (protocol : Protocol) (bytes : List ℕ) (text : Bool)
 put-lives true (Socket websocket_state) bytes text x mid is_put e h = λ alive.
     (sym (ap (λ (l : Lane). is_live l.stage) h.2) ∙ alive, ap (λ (l : Lane). is_busy l.protocol) h.2 ∙ sym (ap is_busy e))
 put-lives true (Http http_state) bytes text x mid is_put e h = same-lives x mid h.1
+put-lives true (Response response_state) bytes text x mid is_put e h = same-lives x mid h.1
 put-lives false protocol bytes text x mid is_put e h = same-lives x mid h.1
 
 pub sends-live : (now : ℕ) (bytes : List ℕ) (text : Bool) (x y : Lane) (mine : List Answer) → Sends now bytes text x y mine → Lives x y
@@ -281,20 +301,26 @@ new-even calls now wire h = (
       omega (arith, none, unsaid),
 )
 
-abbrev pub is_socket : Protocol → Bool
-is_socket (Http http_state) = false
-is_socket (Socket websocket_state) = true
+abbrev pub hears_no_request : Protocol → Bool
+hears_no_request (Http http_state) = false
+hears_no_request (Response response_state) = true
+hears_no_request (Socket websocket_state) = true
 
 -- a lane on which a request is heard is live, not busy, and no WebSocket
 abbrev pub IsFree : Lane → Type 0
-IsFree x = (is_live x.stage ≡ true) × (is_busy x.protocol ≡ false) × (is_socket x.protocol ≡ false)
+IsFree x = (is_live x.stage ≡ true) × (is_busy x.protocol ≡ false) × (hears_no_request x.protocol ≡ false)
 
 hears-free : (wire : ℕ) (before after : Protocol) (answers : List Answer) (what : Input) (request : Request) → Hears wire before after answers what → requests_of what ≡ request ∷ [] →
-    (is_busy before ≡ false) × (is_socket before ≡ false)
+    (is_busy before ≡ false) × (hears_no_request before ≡ false)
 hears-free wire (Http before) (Http after) answers (input.Request trace) request h e = (h.is_input.1, refl)
 hears-free wire (Socket before) (Socket after) answers (input.Request trace) request h e = absurd h.is_input
+hears-free wire (Response before) (Response after) answers (input.Request trace) request h e = absurd h.is_input
 hears-free wire (Http before) (Socket after) answers (input.Request trace) request h e = absurd h
 hears-free wire (Socket before) (Http after) answers (input.Request trace) request h e = absurd h
+hears-free wire (Response before) (Http after) answers (input.Request trace) request h e = absurd h
+hears-free wire (Response before) (Socket after) answers (input.Request trace) request h e = absurd h
+hears-free wire (Http before) (Response after) answers (input.Request trace) request h e = absurd h
+hears-free wire (Socket before) (Response after) answers (input.Request trace) request h e = absurd h
 hears-free wire before after answers _ request h e = absurd (cc e)
 
 listens-free : (now : ℕ) (x y : Lane) (mine : List Answer) (own : Option Event) (request : Request) → Listens now x y mine own → requests_in x.wire own ≡ request ∷ [] → IsFree x

@@ -8,11 +8,12 @@ use Rattle.hw_net.specs.declared.limits.TheConstants.{SWITCHING}
 use Rattle.hw_net.specs.declared.input.Input.{Input}
 use Rattle.hw_net.specs.declared.input.Input.TheVariants as input
 use Rattle.hw_net.specs.declared.protocol.Protocol.{Protocol}
-use Rattle.hw_net.specs.declared.protocol.Protocol.TheVariants.{Http, Socket}
+use Rattle.hw_net.specs.declared.protocol.Protocol.TheVariants.{Http, Response, Socket}
 use Rattle.hw_net.specs.declared.protocol.Stage.{Stage}
 use Rattle.hw_net.specs.declared.protocol.Stage.TheVariants.{Live, Lost, Closing, Over}
 use Rattle.hw_net.specs.HttpState.{HttpStateView}
-use Rattle.hw_net.specs.Lane.{Lane, waits, is_live, is_busy, owes, is_overdue, after_end, after_reply, protocol_after_shut, protocol_after_reply, new_socket, rest_of, after_hearing, protocol_after_continue}
+use Rattle.hw_net.specs.declared.response_state.Expected.{Expected}
+use Rattle.hw_net.specs.Lane.{Lane, waits, is_live, is_busy, owes, is_overdue, after_end, after_reply, protocol_after_shut, protocol_after_reply, protocol_after_upgrade, accepted_socket, new_socket, rest_of, after_hearing, protocol_after_continue}
 use Rattle.hw_net.specs.Saying.{Writes, WritesOut, DropsOrWrites, SpeaksAs, Says, SaysAt, SaysMore, GathersOrSays, must_end, has_closed_long, is_too_much}
 use Rattle.hw_net.specs.Sessions.{was_shut_in, is_request_on}
 use Rattle.hw_net.specs.Trace.{Reads, Gives, Chooses}
@@ -46,6 +47,7 @@ gives-unshut at wire room (answer ∷ next ∷ more) got h = absurd h
 
 pub hears-unshut : (at wire : ℕ) (before after : Protocol) (answers : List Answer) (what : Input) → Hears wire before after answers what → was_shut_in at answers ≡ false
 hears-unshut at wire (Http before) (Http after) answers what h = gives-unshut at wire _ answers h.got h.read
+hears-unshut at wire (Response before) (Response after) answers what h = gives-unshut at wire _ answers h.got h.read
 hears-unshut at wire (Socket before) (Socket after) answers what h = gives-unshut at wire _ answers h.got h.read
 hears-unshut at wire _ _ answers what h = absurd h
 
@@ -84,6 +86,7 @@ not-live Over = refl
 
 pub speaks-busy : (before after : Protocol) → SpeaksAs before after → is_busy after ≡ is_busy before
 speaks-busy (Http before) (Http after) e = ap (λ (a : HttpStateView). a.busy) e
+speaks-busy (Response before) (Response after) e = refl
 speaks-busy (Socket before) (Socket after) e = refl
 speaks-busy _ _ e = absurd e
 
@@ -153,9 +156,19 @@ passes-owes : (wire : ℕ) (becomes after : Lane) (answers : List Answer) (trace
     owes after ≡ (not (was_shut_in wire answers) && owed)
 passes-owes wire becomes after answers trace heard owed h e = ap owes h.2 ∙ e ∙ ap (λ l. not (was_shut_in wire l) && owed) (sym h.0)
 
--- a 100 changes nothing of what is owed
+-- an upgrade that was accepted changes nothing of what is owed
+pub upgrade-busy : (protocol : Protocol) → is_busy (protocol_after_upgrade protocol) ≡ is_busy protocol
+upgrade-busy (Http http_state) = refl
+upgrade-busy (Response response_state) = go response_state.upgrade where
+  go : (upgrade : Option Expected) → is_busy (accepted_socket upgrade response_state) ≡ false
+  go None = refl
+  go (Some expected) = refl
+upgrade-busy (Socket websocket_state) = refl
+
+-- nor does a 100
 pub continue-busy : (protocol : Protocol) → is_busy (protocol_after_continue protocol) ≡ is_busy protocol
 continue-busy (Http http_state) = refl
+continue-busy (Response response_state) = refl
 continue-busy (Socket websocket_state) = refl
 
 settles-owes : (now : ℕ) (x : Lane) (protocol : Protocol) (after : Lane) (read answers : List Answer) (what : Input) (heard : Option Event) → x.stage ≡ Live → Hears x.wire x.protocol protocol read what →
@@ -178,16 +191,33 @@ settles-owes now x protocol after read answers what heard live h s = go x.protoc
   go (Http old) (Http new) (input.Request request) h s = passes-owes x.wire (after_hearing (Http new) x) after answers _ heard true s (kept (Http new) true h.is_input.2)
   go (Http old) (Http new) (input.Refused refusal) h s = passes-owes x.wire _ after answers _ heard old.busy s (sym h.is_input.1)
   go (Http old) (Http new) (input.Message bytes) h s = absurd h.is_input
+  go (Http old) (Http new) (input.Response status body) h s = absurd h.is_input
+  go (Http old) (Http new) input.Upgraded h s = absurd h.is_input
   go (Http old) (Http new) input.Broken h s = falls-owes x (after_hearing (Http new) x) after answers heard old.busy refl s
   go (Http old) (Http new) input.Gone h s = absurd h.is_input
+  go (Response old) (Response new) input.Nothing h s = nothing (Response new) false refl (is_overdue now (after_hearing (Response new) x)) s
+  go (Response old) (Response new) (input.Request request) h s = absurd h.is_input
+  go (Response old) (Response new) (input.Refused refusal) h s = absurd h.is_input
+  go (Response old) (Response new) (input.Response status body) h s = passes-owes x.wire (after_hearing (Response new) x) after answers _ heard false s (kept (Response new) false refl)
+  go (Response old) (Response new) input.Upgraded h s =
+      passes-owes x.wire _ after answers _ heard false s (kept (protocol_after_upgrade (Response new)) false (upgrade-busy (Response new)))
+  go (Response old) (Response new) (input.Message bytes) h s = absurd h.is_input
+  go (Response old) (Response new) input.Broken h s = falls-owes x (after_hearing (Response new) x) after answers heard false refl s
+  go (Response old) (Response new) input.Gone h s = absurd h.is_input
   go (Socket old) (Socket new) input.Nothing h s = nothing (Socket new) false refl (is_overdue now (after_hearing (Socket new) x)) s
   go (Socket old) (Socket new) (input.Request request) h s = absurd h.is_input
   go (Socket old) (Socket new) (input.Refused refusal) h s = absurd h.is_input
+  go (Socket old) (Socket new) (input.Response status body) h s = absurd h.is_input
+  go (Socket old) (Socket new) input.Upgraded h s = absurd h.is_input
   go (Socket old) (Socket new) (input.Message bytes) h s = passes-owes x.wire (after_hearing (Socket new) x) after answers _ heard false s (kept (Socket new) false refl)
   go (Socket old) (Socket new) input.Broken h s = falls-owes x (after_hearing (Socket new) x) after answers heard false refl s
   go (Socket old) (Socket new) input.Gone h s = passes-owes x.wire _ after answers _ heard false s refl
   go (Http old) (Socket new) what h s = absurd h
   go (Socket old) (Http new) what h s = absurd h
+  go (Response old) (Http new) what h s = absurd h
+  go (Response old) (Socket new) what h s = absurd h
+  go (Http old) (Response new) what h s = absurd h
+  go (Socket old) (Response new) what h s = absurd h
 
 trace-is-request : (wire : ℕ) (trace : Option Event) (here : Event) (b : Bool) → trace ≡ Some here → is_request_on wire here ≡ b → is_request_in wire trace ≡ b
 trace-is-request wire trace here b e f = ap (λ o. is_request_in wire o) e ∙ f
@@ -199,6 +229,8 @@ settles-request now before after answers input.Nothing heard h = go (is_overdue 
   go false h = ap (λ o. is_request_in before.wire o) h.1
 settles-request now before after answers (input.Request request) heard h = trace-is-request before.wire heard _ true h.1 (same before.wire)
 settles-request now before after answers (input.Refused refusal) heard h = ap (λ o. is_request_in before.wire o) h.1
+settles-request now before after answers (input.Response status body) heard h = ap (λ o. is_request_in before.wire o) h.1
+settles-request now before after answers input.Upgraded heard h = ap (λ o. is_request_in before.wire o) h.1
 settles-request now before after answers (input.Message bytes) heard h = ap (λ o. is_request_in before.wire o) h.1
 settles-request now before after answers input.Broken heard h = ap (λ o. is_request_in before.wire o) h.1
 settles-request now before after answers input.Gone heard h = ap (λ o. is_request_in before.wire o) h.1
@@ -296,6 +328,7 @@ pub replied-owes : (now : ℕ) (reply : Reply) (lane : Lane) → owes (after_rep
 replied-owes now reply lane = go (reply.status == SWITCHING) where
   unbusy : (protocol : Protocol) → is_busy (protocol_after_reply protocol) ≡ false
   unbusy (Http http_state) = refl
+  unbusy (Response response_state) = refl
   unbusy (Socket websocket_state) = refl
 
   go : (b : Bool) → owes (if b then record lane { protocol = new_socket (rest_of lane.protocol); out = lane.out ++ reply_text reply }
@@ -317,6 +350,7 @@ puts-owe true (Socket websocket_state) bytes text x mid is_put e h =
     let unowed : owes x ≡ false = ap (λ t. is_live x.stage && is_busy t) e ∙ dead x.stage in
     (ap owes h.2 ∙ dead x.stage ∙ sym unowed, inr unowed)
 puts-owe true (Http http_state) bytes text x mid is_put e h = (ap owes h.1, inl h.0)
+puts-owe true (Response response_state) bytes text x mid is_put e h = (ap owes h.1, inl h.0)
 puts-owe false protocol bytes text x mid is_put e h = (ap owes h.1, inl h.0)
 
 pub sends-owe : (now : ℕ) (bytes : List ℕ) (text : Bool) (x y : Lane) (mine : List Answer) → Sends now bytes text x y mine → owes y ≡ owes x

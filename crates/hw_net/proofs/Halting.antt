@@ -1,5 +1,5 @@
 -- What memory leaves that runs out in a turn.
-use Rattle.std.proofs.Common.{◌≡◌, ◌≤◌, ◌<◌, ℕ, List, [], ◌∷◌, ◌++◌, Bool, true, Option, None, Some, Result, Ok, Err, OnErr, refl, sym, ap, ◌∙◌, subst, inl, inr, length, set, get_or, take, option_map, max}
+use Rattle.std.proofs.Common.{◌≡◌, ◌≤◌, ◌<◌, ℕ, List, [], ◌∷◌, ◌++◌, ◌⊎◌, Bool, true, Option, None, Some, Result, Ok, Err, OnErr, refl, sym, ap, ◌∙◌, subst, inl, inr, length, set, get_or, take, option_map, max, is_some}
 use Rattle.std.proofs.lemmas.List.{append-nil, get_or_default}
 use Rattle.hw_door.specs.declared.heard.Event.{Event}
 use Rattle.hw_lanes.specs.declared.http.Request.{Request}
@@ -12,12 +12,13 @@ use Rattle.hw_net.specs.declared.limits.TheConstants.{PIECE}
 use Rattle.hw_net.specs.declared.first_read.FirstRead.{FirstRead}
 use Rattle.hw_net.specs.declared.first_read.FirstRead.TheVariants.{Read}
 use Rattle.hw_net.specs.declared.protocol.Protocol.{Protocol}
-use Rattle.hw_net.specs.declared.protocol.Protocol.TheVariants.{Http, Socket}
+use Rattle.hw_net.specs.declared.protocol.Protocol.TheVariants.{Http, Response, Socket}
 use Rattle.hw_net.specs.declared.protocol.Stage.TheVariants.{Live}
 use Rattle.hw_net.specs.Door.{Begins, kept, time_to_wait, with_accepted, index_of_first}
 use Rattle.hw_net.specs.FirstReads.{ReadsFirst, ReadsFirstAt, IsCalmProtocol}
-use Rattle.hw_net.specs.Halting.{HaltsHttp, HaltsSocket, HaltsIn, Halts, HaltsWithin, HaltsAll, HaltsNext, IsDue, IsLasting}
+use Rattle.hw_net.specs.Halting.{HaltsHttp, HaltsResponse, HaltsSocket, HaltsIn, Halts, HaltsWithin, HaltsAll, HaltsNext, IsDue, IsLasting}
 use Rattle.hw_net.specs.HttpState.{HttpStateView, HearsHttp, Finds as HttpFinds, requests_of}
+use Rattle.hw_net.specs.ResponseState.{ResponseStateView, HearsResponse, IsAnswered}
 use Rattle.hw_net.specs.Lane.{Lane, after_hearing}
 use Rattle.hw_net.specs.Lanes.{DoesHere}
 use Rattle.hw_net.specs.Trace.{Tells, Reads}
@@ -88,22 +89,45 @@ pub due-halts : (wire : ℕ) (before after : Protocol) (answers : List Answer) (
 due-halts wire (Http before) (Http after) answers heard h due =
     (h.mid, h.got, requests_of heard, h.read, h.asks, inr due)
 due-halts wire (Socket before) (Socket after) answers heard h due = absurd due
+due-halts wire (Response before) (Response after) answers heard h due = absurd due
 due-halts wire (Http before) (Socket after) answers heard h due = absurd h
 due-halts wire (Socket before) (Http after) answers heard h due = absurd h
+due-halts wire (Response before) (Http after) answers heard h due = absurd h
+due-halts wire (Response before) (Socket after) answers heard h due = absurd h
+due-halts wire (Http before) (Response after) answers heard h due = absurd h
+due-halts wire (Socket before) (Response after) answers heard h due = absurd h
 
 -- or for what it comes to
 lasting-http : (wire : ℕ) (before after : HttpStateView) (answers : List Answer) (heard : Input) → HearsHttp wire before after answers heard → IsLasting heard → HaltsHttp wire before after answers
 lasting-http wire before after answers input.Nothing h l = absurd l
 lasting-http wire before after answers (input.Request request) h l = absurd l
 lasting-http wire before after answers (input.Refused refusal) h l = (h.mid, h.got, [], h.read, h.asks, inl refl)
+lasting-http wire before after answers (input.Response status body) h l = absurd l
+lasting-http wire before after answers input.Upgraded h l = absurd h.is_input
 lasting-http wire before after answers (input.Message bytes) h l = absurd l
 lasting-http wire before after answers input.Broken h l = absurd l
 lasting-http wire before after answers input.Gone h l = absurd h.is_input
+
+-- an upgrade that was accepted is heard again
+lasting-response : (wire : ℕ) (before after : ResponseStateView) (answers : List Answer) (heard : Input) → HearsResponse wire before after answers heard → IsLasting heard → HaltsResponse wire before after answers
+lasting-response wire before after answers input.Nothing h l = absurd l
+lasting-response wire before after answers (input.Request request) h l = absurd l
+lasting-response wire before after answers (input.Refused refusal) h l = absurd h.is_input
+lasting-response wire before after answers (input.Response status body) h l = absurd l
+lasting-response wire before after answers input.Upgraded h l = (h.got, h.read, h.upgrade, inr (go h.is_input, h.is_input)) where
+  go : ((before.accepted ≡ true) × (is_some before.upgrade ≡ true) × (after ≡ before)) ⊎ IsAnswered before after h.got input.Upgraded → after.accepted ≡ true
+  go (inl k) = ap (λ (s : ResponseStateView). s.accepted) k.2 ∙ k.0
+  go (inr k) = k.2
+lasting-response wire before after answers (input.Message bytes) h l = absurd l
+lasting-response wire before after answers input.Broken h l = absurd l
+lasting-response wire before after answers input.Gone h l = absurd h.is_input
 
 lasting-socket : (wire : ℕ) (before after : WebSocketState) (answers : List Answer) (heard : Input) → HearsWebSocket wire before after answers heard → IsLasting heard → HaltsSocket wire before after answers
 lasting-socket wire before after answers input.Nothing h l = absurd l
 lasting-socket wire before after answers (input.Request request) h l = absurd l
 lasting-socket wire before after answers (input.Refused refusal) h l = absurd h.is_input
+lasting-socket wire before after answers (input.Response status body) h l = absurd l
+lasting-socket wire before after answers input.Upgraded h l = absurd h.is_input
 lasting-socket wire before after answers (input.Message bytes) h l = absurd l
 lasting-socket wire before after answers input.Broken h l = absurd l
 lasting-socket wire before after answers input.Gone h l = let gets = h.is_input.0.1 in (h.got, h.read, inr (gets.0, gets.1, inr gets.2))
@@ -111,8 +135,13 @@ lasting-socket wire before after answers input.Gone h l = let gets = h.is_input.
 pub lasting-halts : (wire : ℕ) (before after : Protocol) (answers : List Answer) (heard : Input) → Hears wire before after answers heard → IsLasting heard → HaltsIn wire before after answers
 lasting-halts wire (Http before) (Http after) answers heard h l = lasting-http wire before after answers heard h l
 lasting-halts wire (Socket before) (Socket after) answers heard h l = lasting-socket wire before after answers heard h l
+lasting-halts wire (Response before) (Response after) answers heard h l = lasting-response wire before after answers heard h l
 lasting-halts wire (Http before) (Socket after) answers heard h l = absurd h
 lasting-halts wire (Socket before) (Http after) answers heard h l = absurd h
+lasting-halts wire (Response before) (Http after) answers heard h l = absurd h
+lasting-halts wire (Response before) (Socket after) answers heard h l = absurd h
+lasting-halts wire (Http before) (Response after) answers heard h l = absurd h
+lasting-halts wire (Socket before) (Response after) answers heard h l = absurd h
 
 -- a first look gave this, and then nothing else was read
 pub after-look : {E : Type 0} (r : Result Input E) (a : Option (List Answer)) (lane after : Lane) (buf : List ℕ) (first_look : FirstRead) (got : Option ℕ) → first_look ≡ Read got →
@@ -135,15 +164,11 @@ calm-halts (Err why) lane before after buf got e h = λ first reads_first.
     subst (λ (l : List Answer). HaltsIn lane.wire lane.protocol (Socket after) l) (sym reads_first.1.1)
     (subst (λ (p : Protocol). HaltsIn lane.wire p (Socket after) (reads_first.1.0 ∷ [])) (sym e) halts)
 
-pub http-in : {E : Type 0} (r : Result Input E) (a b : Option (List Answer)) (wire : ℕ) (protocol : Protocol) (before after : HttpStateView) → protocol ≡ Http before →
-    OnErr r ((answers : List Answer) × Tells a b answers × HaltsHttp wire before after answers) → OnErr r ((answers : List Answer) × Tells a b answers × HaltsIn wire protocol (Http after) answers)
-http-in (Ok heard) a b wire protocol before after e h = h
-http-in (Err why) a b wire protocol before after e h = (h.0, h.1, subst (λ (p : Protocol). HaltsIn wire p (Http after) h.0) (sym e) h.2)
-
-pub socket-in : {E : Type 0} (r : Result Input E) (a b : Option (List Answer)) (wire : ℕ) (protocol : Protocol) (before after : WebSocketState) → protocol ≡ Socket before →
-    OnErr r ((answers : List Answer) × Tells a b answers × HaltsSocket wire before after answers) → OnErr r ((answers : List Answer) × Tells a b answers × HaltsIn wire protocol (Socket after) answers)
-socket-in (Ok heard) a b wire protocol before after e h = h
-socket-in (Err why) a b wire protocol before after e h = (h.0, h.1, subst (λ (p : Protocol). HaltsIn wire p (Socket after) h.0) (sym e) h.2)
+-- the same of what the lane speaks
+pub halts-in : {E : Type 0} (r : Result Input E) (a b : Option (List Answer)) (wire : ℕ) (protocol before after : Protocol) → protocol ≡ before →
+    OnErr r ((answers : List Answer) × Tells a b answers × HaltsIn wire before after answers) → OnErr r ((answers : List Answer) × Tells a b answers × HaltsIn wire protocol after answers)
+halts-in (Ok heard) a b wire protocol before after e h = h
+halts-in (Err why) a b wire protocol before after e h = (h.0, h.1, subst (λ (p : Protocol). HaltsIn wire p after h.0) (sym e) h.2)
 
 -- ---- a turn
 

@@ -25,6 +25,8 @@ continued-of : (before after : HttpStateView) (heard : Input) → Finds before a
 continued-of before after input.Nothing f = f.5
 continued-of before after (input.Request request) f = f.2
 continued-of before after (input.Refused refusal) f = f.4
+continued-of before after (input.Response status body) f = absurd f
+continued-of before after input.Upgraded f = absurd f
 continued-of before after (input.Message bytes) f = absurd f
 continued-of before after input.Broken f = absurd f
 continued-of before after input.Gone f = absurd f
@@ -127,6 +129,8 @@ input-found : (before after : HttpStateView) (heard : Input) → Finds before af
 input-found before after input.Nothing f e = cc e
 input-found before after (input.Request request) f e = (refl, f.0, f.1)
 input-found before after (input.Refused refusal) f e = (refl, f.1, f.2, rw f.0 f.3)
+input-found before after (input.Response status body) f e = absurd f
+input-found before after input.Upgraded f e = absurd f
 input-found before after (input.Message bytes) f e = absurd f
 input-found before after input.Broken f e = absurd f
 input-found before after input.Gone f e = absurd f
@@ -155,6 +159,8 @@ input-later : (before mid after : HttpStateView) (answers : List Answer) (got : 
 input-later before mid after answers got input.Nothing f n = (n.0, asked-later before mid answers f.3 n.1, n.2 ∙ f.1, n.3)
 input-later before mid after answers got (input.Request request) f n = (n.0, sym f.1 ∙ n.1, n.2)
 input-later before mid after answers got (input.Refused refusal) f n = (n.0, sym f.1 ∙ n.1, n.2, n.3)
+input-later before mid after answers got (input.Response status body) f n = absurd n
+input-later before mid after answers got input.Upgraded f n = absurd n
 input-later before mid after answers got (input.Message bytes) f n = absurd n
 input-later before mid after answers got input.Broken f n = (n.0, n.1 ∙ f.1)
 input-later before mid after answers got input.Gone f n = absurd n
@@ -162,7 +168,7 @@ input-later before mid after answers got input.Gone f n = absurd n
 room-of : (lane : Lane) → 1 ≤ room lane → 1 ≤ room_of lane
 room-of lane h = omega (arith, h)
 
-none-of : (got : Option (List ℕ)) → false ≡ is_some got → got ≡ None
+pub none-of : (got : Option (List ℕ)) → false ≡ is_some got → got ≡ None
 none-of None e = refl
 none-of (Some piece) e = cc e
 
@@ -200,6 +206,8 @@ input-looked : (wire : ℕ) (before mid after : HttpStateView) (answers : List A
 input-looked wire before mid after answers input.Nothing r f = (sym r.whole, λ had. r.asked (room-of before.lane had), f.1 ∙ r.busy, f.2)
 input-looked wire before mid after answers (input.Request request) r f = (sym r.whole, sym r.busy ∙ f.0, f.1)
 input-looked wire before mid after answers (input.Refused refusal) r f = (sym r.whole, sym r.busy ∙ f.1, f.2, rw f.0 f.3)
+input-looked wire before mid after answers (input.Response status body) r f = absurd f
+input-looked wire before mid after answers input.Upgraded r f = absurd f
 input-looked wire before mid after answers (input.Message bytes) r f = absurd f
 input-looked wire before mid after answers input.Broken r f = absurd f
 input-looked wire before mid after answers input.Gone r f = absurd f
@@ -223,6 +231,8 @@ pub nothing-of : (heard : Input) → is_nothing heard ≡ true → heard ≡ inp
 nothing-of input.Nothing e = refl
 nothing-of (input.Request request) e = cc e
 nothing-of (input.Refused refusal) e = cc e
+nothing-of (input.Response status body) e = cc e
+nothing-of input.Upgraded e = cc e
 nothing-of (input.Message bytes) e = cc e
 nothing-of input.Broken e = cc e
 nothing-of input.Gone e = cc e

@@ -1,4 +1,5 @@
 pub mod HttpFacts
+pub mod ResponseFacts
 pub mod Bounding
 pub mod Findings
 pub mod Fullness
@@ -32,9 +33,14 @@ pub mod Closings
 pub mod Losses
 pub mod Shifts
 pub mod Fillings
+pub mod Lasting
 pub mod Sockets
+pub mod Said
 pub mod Reaching
 pub mod Halting
 pub mod Resting
 pub mod Searching
 pub mod Gathering
+pub mod LaneNumbering
+pub mod Dialing
+pub mod DialerNumbering

@@ -9,7 +9,7 @@ use Rattle.hw_socket.specs.Reading.{Feeds}
 use Rattle.hw_net.specs.declared.input.Input.{Input}
 use Rattle.hw_net.specs.declared.input.Input.TheVariants as input
 use Rattle.hw_net.specs.declared.protocol.Protocol.{Protocol}
-use Rattle.hw_net.specs.declared.protocol.Protocol.TheVariants.{Http, Socket}
+use Rattle.hw_net.specs.declared.protocol.Protocol.TheVariants.{Http, Response, Socket}
 use Rattle.hw_net.specs.declared.protocol.Stage.{Stage}
 use Rattle.hw_net.specs.declared.protocol.Stage.TheVariants.{Live, Lost, Closing, Over}
 use Rattle.hw_net.specs.Bounds.{has_wire}
@@ -18,6 +18,7 @@ use Rattle.hw_net.specs.Lane.{Lane, waits, is_live, owes, is_overdue, is_stalled
 use Rattle.hw_net.specs.Saying.{Writes, WritesOut, DropsOrWrites, Says, SaysAt, SaysMore, GathersOrSays, must_end, has_closed_long, is_too_much}
 use Rattle.hw_net.specs.Sessions as session
 use Rattle.hw_net.specs.Sessions.{Call, Session, Does, answers_in, answers_of, broke_in, IsGone, IsSpoiled, IsLostRightly, LossesHaveCauses}
+use Rattle.hw_net.specs.ResponseState.{Fails, IsAnswered, IsBeginning}
 use Rattle.hw_net.specs.Trace.{Reads, Gives, Chooses}
 use Rattle.hw_net.specs.Turn.{Hears, Falls, Passes, Settles, Loses, LosesAt, TurnsLive, TurnsAt, Listens, Replies, Puts, PutsAt, Sends, Shuts}
 use Rattle.hw_net.proofs.Asked.{Silent, gives-bytes, live-reads, settles-silent, says-silent}
@@ -130,6 +131,8 @@ settled-unlost now x after shut what trace live s = go what s where
   go input.Nothing s = nothing (is_overdue now x) s
   go (input.Request request) s = same-stage x s.2 (ap is_lost live)
   go (input.Refused refusal) s = same-stage _ s.2 refl
+  go (input.Response status body) s = same-stage x s.2 (ap is_lost live)
+  go input.Upgraded s = same-stage _ s.2 (ap is_lost live)
   go (input.Message bytes) s = same-stage x s.2 (ap is_lost live)
   go input.Broken s = same-stage _ s.2 refl
   go input.Gone s = same-stage _ s.2 refl
@@ -202,6 +205,7 @@ sends-break now bytes text x y mine h = go h.0 h.1 h.2 h.3 where
   unput : (live : Bool) (protocol : Protocol) (mid : Lane) → is_live x.stage ≡ live → PutsAt live protocol bytes text x mid false → y ≡ mid → Breaks x y mine
   unput true (Socket websocket_state) mid e p f = λ lost. unlost y.stage x.stage (ap (λ (l : Lane). l.stage) (f ∙ p.2)) (has-unlost x.stage (live-has x.stage e)) lost
   unput true (Http http_state) mid e p f = λ lost. inr (f ∙ p.1)
+  unput true (Response response_state) mid e p f = λ lost. inr (f ∙ p.1)
   unput false protocol mid e p f = λ lost. inr (f ∙ p.1)
 
   go : (mid : Lane) (b : Bool) → Puts bytes text x mid b → SaysPut now b mid y mine → Breaks x y mine
@@ -303,15 +307,26 @@ input-shows now wire x protocol after y mine read shut what trace loss h s broke
   go old new input.Nothing h s = nothing old new (is_overdue now (after_hearing new x)) refl s
   go old new (input.Request request) h s = never _ s.1 refl
   go old new (input.Refused refusal) h s = never _ s.1 refl
+  go old new (input.Response status body) h s = never _ s.1 refl
+  go old new input.Upgraded h s = never _ s.1 refl
   go old new (input.Message bytes) h s = never _ s.1 refl
   go (Http old) (Http new) input.Broken h s = inl (broke (gives-broke wire _ read h.got h.is_input.0 h.read))
+  go (Response old) (Response new) input.Broken h s = by h.is_input where
+    by : ((h.got ≡ None) × (old.concluded ≡ false → IsBeginning old.lane.held)) ⊎ IsAnswered old new h.got input.Broken → ShowsOf wire (Response old) mine y now
+    by (inl e) = inl (broke (gives-broke wire _ read h.got e.0 h.read))
+    by (inr k) = inr (inr (inr (inl (k.0, subst (λ (l : List ℕ). Fails old.upgrade (old.lane.held ++ l)) (sym (same_read ∙ gives-bytes wire _ read h.got h.read)) k.3))))
   go (Socket old) (Socket new) input.Broken h s = by h.is_input.0 where
     by : (h.got ≡ None) ⊎ (old.lost_bytes ≡ true) → ShowsOf wire (Socket old) mine y now
     by (inl e) = inl (broke (gives-broke wire _ read h.got e h.read))
     by (inr e) = inr (inr (inr (inr e)))
   go (Http old) (Socket new) input.Broken h s = absurd h
   go (Socket old) (Http new) input.Broken h s = absurd h
+  go (Response old) (Http new) input.Broken h s = absurd h
+  go (Response old) (Socket new) input.Broken h s = absurd h
+  go (Http old) (Response new) input.Broken h s = absurd h
+  go (Socket old) (Response new) input.Broken h s = absurd h
   go (Http old) (Http new) input.Gone h s = absurd h.is_input
+  go (Response old) (Response new) input.Gone h s = absurd h.is_input
   go (Socket old) (Socket new) input.Gone h s =
       let gets = h.is_input.0 in
       inr (inr (inr (inl (
@@ -322,6 +337,10 @@ input-shows now wire x protocol after y mine read shut what trace loss h s broke
       ))))
   go (Http old) (Socket new) input.Gone h s = absurd h
   go (Socket old) (Http new) input.Gone h s = absurd h
+  go (Response old) (Http new) input.Gone h s = absurd h
+  go (Response old) (Socket new) input.Gone h s = absurd h
+  go (Http old) (Response new) input.Gone h s = absurd h
+  go (Socket old) (Response new) input.Gone h s = absurd h
 
 live-shows : (now : ℕ) (x y : Lane) (mine : List Answer) (own : Option Event) → x.stage ≡ Live → is_loss own ≡ true → TurnsLive now x y mine own → ShowsOf x.wire x.protocol mine y now
 live-shows now x y mine own live loss h = go h.trace refl h.loses where

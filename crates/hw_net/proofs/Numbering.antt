@@ -7,7 +7,7 @@ use Rattle.hw_net.specs.declared.limits.TheConstants.{SWITCHING}
 use Rattle.hw_net.specs.declared.protocol.Stage.{Stage}
 use Rattle.hw_net.specs.declared.protocol.Stage.TheVariants.{Live, Lost, Closing, Over}
 use Rattle.hw_net.specs.declared.protocol.Protocol.{Protocol}
-use Rattle.hw_net.specs.declared.protocol.Protocol.TheVariants.{Http, Socket}
+use Rattle.hw_net.specs.declared.protocol.Protocol.TheVariants.{Http, Response, Socket}
 use Rattle.hw_net.specs.Door.{IsNumbered, kept}
 use Rattle.hw_net.specs.Flushing.{WriteEach}
 use Rattle.hw_net.specs.Lane.{Lane, wires_of, waits, is_over, is_live, owes, after_end, after_reply, protocol_after_shut, protocol_after_reply, new_socket, rest_of}
@@ -103,6 +103,7 @@ replies-keep lane now reply before after answers h = at-wires lane (Replies now 
 pub put-wire : (live : Bool) (protocol : Protocol) (bytes : List ℕ) (text : Bool) (before after : Lane) (is_put : Bool) → PutsAt live protocol bytes text before after is_put → after.wire ≡ before.wire
 put-wire true (Socket websocket_state) bytes text before after is_put h = ap (λ (l : Lane). l.wire) h.2
 put-wire true (Http http_state) bytes text before after is_put h = ap (λ (l : Lane). l.wire) h.1
+put-wire true (Response response_state) bytes text before after is_put h = ap (λ (l : Lane). l.wire) h.1
 put-wire false protocol bytes text before after is_put h = ap (λ (l : Lane). l.wire) h.1
 
 pub send-wire : (now : ℕ) (bytes : List ℕ) (text : Bool) (before after : Lane) (answers : List Answer) → Sends now bytes text before after answers → after.wire ≡ before.wire

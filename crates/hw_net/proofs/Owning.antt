@@ -7,7 +7,7 @@ use Rattle.hw_door.specs.Traffic.{Answer, bytes_in, not_yet, ended, read_failed,
 use Rattle.hw_net.specs.declared.input.Input.{Input}
 use Rattle.hw_net.specs.declared.input.Input.TheVariants as input
 use Rattle.hw_net.specs.declared.protocol.Protocol.{Protocol}
-use Rattle.hw_net.specs.declared.protocol.Protocol.TheVariants.{Http, Socket}
+use Rattle.hw_net.specs.declared.protocol.Protocol.TheVariants.{Http, Response, Socket}
 use Rattle.hw_net.specs.declared.protocol.Stage.{Stage}
 use Rattle.hw_net.specs.declared.protocol.Stage.TheVariants.{Live, Lost, Closing, Over}
 use Rattle.hw_net.specs.Lane.{Lane, waits, after_reply, owes, is_live, is_overdue, protocol_after_shut, after_hearing}
@@ -111,6 +111,7 @@ gives-own wire room (answer ∷ next ∷ more) got h = absurd h
 
 hears-own : (wire : ℕ) (before after : Protocol) (answers : List Answer) (heard : Input) → Hears wire before after answers heard → AreOwn wire answers
 hears-own wire (Http before) (Http after) answers heard h = gives-own wire _ answers h.got h.read
+hears-own wire (Response before) (Response after) answers heard h = gives-own wire _ answers h.got h.read
 hears-own wire (Socket before) (Socket after) answers heard h = gives-own wire _ answers h.got h.read
 hears-own wire _ _ answers heard h = absurd h
 
@@ -137,6 +138,8 @@ settles-keeps now before after answers input.Nothing heard h = go (is_overdue no
   go false h = (still-keeps before after answers h.0 h.2, subst (λ (o : Option Event). IsOn before.wire o) (sym h.1) tt)
 settles-keeps now before after answers (input.Request request) heard h = passes-keeps before _ after answers (event.Request before.wire request) heard refl (same before.wire) h
 settles-keeps now before after answers (input.Refused refusal) heard h = passes-keeps before _ after answers (event.Refused before.wire refusal) heard refl (same before.wire) h
+settles-keeps now before after answers (input.Response status body) heard h = passes-keeps before _ after answers (event.Response before.wire status body) heard refl (same before.wire) h
+settles-keeps now before after answers input.Upgraded heard h = passes-keeps before _ after answers (event.Upgraded before.wire) heard refl (same before.wire) h
 settles-keeps now before after answers (input.Message bytes) heard h = passes-keeps before _ after answers (event.Bytes before.wire bytes) heard refl (same before.wire) h
 settles-keeps now before after answers input.Broken heard h = falls-keeps before after answers heard h
 settles-keeps now before after answers input.Gone heard h = passes-keeps before _ after answers (event.Lost before.wire) heard refl (same before.wire) h

@@ -10,7 +10,7 @@ use Rattle.hw_door.specs.Traffic.{Answer, not_yet}
 use Rattle.hw_net.specs.declared.full.Fullness.{Fullness}
 use Rattle.hw_net.specs.declared.input.Input.TheVariants as input
 use Rattle.hw_net.specs.declared.protocol.Protocol.{Protocol}
-use Rattle.hw_net.specs.declared.protocol.Protocol.TheVariants.{Http, Socket}
+use Rattle.hw_net.specs.declared.protocol.Protocol.TheVariants.{Http, Response, Socket}
 use Rattle.hw_net.specs.declared.protocol.Stage.{Stage}
 use Rattle.hw_net.specs.declared.protocol.Stage.TheVariants.{Live, Lost, Closing, Over}
 use Rattle.hw_net.specs.Door.{IsNothing, RestsAt, kept}
@@ -22,6 +22,7 @@ use Rattle.hw_net.specs.Tally.{has_unwritten, has_unwritten_by, is_restless, onl
 use Rattle.hw_net.specs.Turn.{Hears, TurnsAt}
 use Rattle.hw_net.specs.WebSocketState.{WebSocketState, IsCalm}
 use Rattle.hw_net.proofs.Calm.{quiet-listens, still-hears}
+use Rattle.hw_net.proofs.ResponseFacts.{still-response}
 use Rattle.hw_net.proofs.Walking.{silent}
 
 -- ---- tests
@@ -140,6 +141,9 @@ socket-still lane websocket_state is sound asleep there written =
 still-at : (lane : Lane) (protocol : Protocol) → lane.protocol ≡ protocol → IsSound protocol → is_awake_by Live protocol ≡ false → only_waits_by Live protocol ≡ true → frames_of protocol ≡ [] →
     StillAt lane protocol
 still-at lane (Http http_state) is sound asleep waits written = http-still lane http_state is sound asleep waits
+still-at lane (Response response_state) is sound asleep waits written =
+    let h = still-response lane.wire response_state sound asleep in
+    (h.0, h.1, h.2, ap (λ (p : Protocol). record lane { protocol = p }) (sym is))
 still-at lane (Socket websocket_state) is sound asleep waits written = socket-still lane websocket_state is sound asleep waits written
 
 -- one that is full and has nothing to write has drained

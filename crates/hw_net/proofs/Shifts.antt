@@ -3,7 +3,7 @@ use Rattle.std.proofs.Common.{◌≡◌, ◌++◌, ◌∷◌, [], ℕ, Bool, tru
 use Rattle.hw_socket.specs.declared.vocabulary.SocketRead.{SocketRead}
 use Rattle.hw_socket.specs.declared.vocabulary.SocketRead.TheVariants.{Payload, NotYet, Gone}
 use Rattle.hw_socket.specs.declared.vocabulary.Ending.TheVariants.{Answered, BadText}
-use Rattle.hw_socket.specs.Calls.{Call, Feed, Read, FailedRead, Send, Drop, Shut, Does, Session, fed, heard, dropped}
+use Rattle.hw_socket.specs.Calls.{Call, Feed, Read, FailedRead, Send, Drop, Shut, Does, Session, fed, heard, said, dropped}
 use Rattle.hw_socket.specs.Closing.{after_close, status_of}
 use Rattle.hw_socket.specs.Lane.{Lane}
 use Rattle.hw_socket.specs.Masks.{Written, after_reply, with_mask, mask_of}
@@ -120,6 +120,16 @@ heard-more (FailedRead ∷ calls) call = heard-more calls call
 heard-more (Send message answer ∷ calls) call = heard-more calls call
 heard-more (Drop piece ∷ calls) call = heard-more calls call
 heard-more (Shut ∷ calls) call = heard-more calls call
+
+pub said-more : (calls : List Call) (call : Call) → said (calls ++ call ∷ []) ≡ said calls ++ said (call ∷ [])
+said-more [] call = refl
+said-more (Feed piece ∷ calls) call = said-more calls call
+said-more (Read answer ∷ calls) call = said-more calls call
+said-more (FailedRead ∷ calls) call = said-more calls call
+said-more (Send message true ∷ calls) call = ap (λ l. message ∷ l) (said-more calls call)
+said-more (Send message false ∷ calls) call = said-more calls call
+said-more (Drop piece ∷ calls) call = said-more calls call
+said-more (Shut ∷ calls) call = said-more calls call
 
 pub dropped-more : (calls : List Call) (call : Call) → dropped (calls ++ call ∷ []) ≡ dropped calls ++ dropped (call ∷ [])
 dropped-more [] call = refl

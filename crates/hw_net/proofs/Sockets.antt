@@ -9,16 +9,19 @@ use Rattle.hw_door.specs.declared.heard.Event.TheVariants as event
 use Rattle.hw_door.specs.Traffic.{Answer, was_shut, read_on, written_on}
 use Rattle.hw_socket.specs.Calls as socket_calls
 use Rattle.hw_socket.specs.Lane as socket
-use Rattle.hw_socket.specs.Reading.{Feeds, Takes}
+use Rattle.hw_socket.specs.Reading as reading
+use Rattle.hw_socket.specs.Reading.{Feeds, Steps, Takes, after_taking}
 use Rattle.hw_socket.specs.Sending as sending
+use Rattle.hw_socket.specs.Sending.{Sent}
 use Rattle.hw_socket.specs.declared.vocabulary.SocketRead.{SocketRead}
 use Rattle.hw_socket.specs.declared.vocabulary.SocketRead.TheVariants as read
+use Rattle.hw_socket.specs.declared.vocabulary.Ending.TheVariants.{BadText}
 use Rattle.hw_socket.specs.declared.vocabulary.SocketSide.TheVariants as side
 use Rattle.hw_net.specs.declared.limits.TheConstants.{SWITCHING}
 use Rattle.hw_net.specs.declared.input.Input.{Input}
 use Rattle.hw_net.specs.declared.input.Input.TheVariants as input
 use Rattle.hw_net.specs.declared.protocol.Protocol.{Protocol}
-use Rattle.hw_net.specs.declared.protocol.Protocol.TheVariants.{Http, Socket}
+use Rattle.hw_net.specs.declared.protocol.Protocol.TheVariants.{Http, Response, Socket}
 use Rattle.hw_net.specs.declared.protocol.Stage.{Stage}
 use Rattle.hw_net.specs.declared.protocol.Stage.TheVariants.{Live, Lost, Closing, Over}
 use Rattle.hw_net.specs.HttpState.{HttpStateView, requests_of}
@@ -26,30 +29,48 @@ use Rattle.hw_net.specs.Door.{new_lane}
 use Rattle.hw_net.specs.Lane.{Lane, waits, frames_of, is_live, is_busy, owes, is_overdue, after_reply, protocol_after_shut, protocol_after_reply, new_socket, rest_of, after_hearing}
 use Rattle.hw_net.specs.Saying.{WritesOut, DropsOrWrites, SpeaksAs, Says, SaysAt, SaysMore, GathersOrSays, must_end, has_closed_long, is_too_much}
 use Rattle.hw_net.specs.Sessions as session
-use Rattle.hw_net.specs.Sessions.{Call, Session, answers_in, answers_of, requests_on, replies_on, continue_of, message_on, messages_on, IsCarried, CarriesSocket, SocketsAreCarried}
+use Rattle.hw_net.specs.Sessions.{Call, Session, answers_in, answers_of, requests_on, replies_on, continue_of, message_on, messages_on, goes_on, sent_on, IsCarried, CarriesSocket, SocketsAreCarried}
 use Rattle.hw_net.specs.WebSocketState.{WebSocketState, Gets}
 use Rattle.hw_net.specs.Trace.{Chooses, bytes_of}
 use Rattle.hw_net.specs.Turn.{Hears, Falls, Passes, Settles, Loses, LosesAt, TurnsLive, TurnsAt, Listens, Replies, Puts, PutsAt, Sends, Shuts}
 use Rattle.hw_net.proofs.Asked.{HeardIn, IsAsked, step-asked, new-asked, requests_by, requests-more, requests_in, settles-requests, loses-requests, heard-requests, gives-bytes, live-reads, settles-silent, says-silent, bystander-silent, read-more, replies-silent, sends-silent, shuts-silent}
 use Rattle.hw_net.proofs.Bystanders.{SaysOrStays, Stays, gathered-says}
-use Rattle.hw_net.proofs.Counting.{Lives, writes-live, dropped-or-live}
+use Rattle.hw_net.proofs.Counting.{hears_no_request, Lives, writes-live, dropped-or-live}
 use Rattle.hw_net.proofs.Ends.{dead}
 use Rattle.hw_net.proofs.Fullness.{by-fullness, SaysPut}
+use Rattle.hw_net.proofs.Lasting.{IsLasting, new-lasting, step-lasting}
 use Rattle.hw_net.proofs.Moves.{has-of}
 use Rattle.hw_net.proofs.Numbering.{replied-wire, put-wire}
-use Rattle.hw_net.proofs.Owed.{by-number, replies_by, replies-more}
+use Rattle.hw_net.proofs.Owed.{IsOwed, by-number, replies_by, replies-more}
 use Rattle.hw_net.proofs.Owning.{settles-keeps}
 use Rattle.hw_net.proofs.Shares.{share, written-append, same}
-use Rattle.hw_net.proofs.Shifts.{rewritten, Shifted, takes-shift, says-shift, shut-shift, session-more, fed-more, heard-more, dropped-more}
+use Rattle.hw_net.proofs.Shifts.{rewritten, Shifted, takes-shift, says-shift, shut-shift, session-more, fed-more, heard-more, said-more, dropped-more}
 use Rattle.hw_net.proofs.Voices.{Voiced, HasSaid, step-said, new-said, writes-front, reply-said, texts-more, refusals_of, refusals_in, settles-refusals, loses-refusals, heard-refusals, hears-unwritten, settles-unwritten, live-written, written-more}
 use Rattle.hw_net.proofs.Walks.{IsHeard, Heeds, Moves, moves-wire, IsUntouched, each-lane, unrequested, unheard, unrefused}
+
+-- ---- why it is gone
+
+-- it isn't, or by a text that was none
+abbrev IsSound : socket.Lane → Type 0
+IsSound now = (now.ending ≡ None) ⊎ (now.ending ≡ Some BadText)
+
+took-on : (unsent : List Sent) (now next : socket.Lane) → next.ending ≡ now.ending → (unsent ≡ []) ⊎ (now.ending ≡ Some BadText) → (unsent ≡ []) ⊎ (next.ending ≡ Some BadText)
+took-on unsent now next e (inl k) = inl k
+took-on unsent now next e (inr k) = inr (e ∙ k)
+
+ends-on : (now next : socket.Lane) → next.ending ≡ now.ending → IsSound now → IsSound next
+ends-on now next e (inl k) = inl (e ∙ k)
+ends-on now next e (inr k) = inr (e ∙ k)
+
+bad-is-gone : (now : socket.Lane) → now.ending ≡ Some BadText → now.ending ≡ None → ⊥
+bad-is-gone now e f = let z : Some BadText ≡ None = sym e ∙ f in cc z
 
 -- ---- one call more of the WebSocket that is carried
 
 -- the lane may be heard no more, and of what it has to write some may be gone
-carries-on : (live after : Bool) (from wrote : List ℕ) (requests : List Request) (messages : List (List ℕ)) (replies : List Reply) (now next : socket.Lane) → (after ≡ true → live ≡ true) →
-    next ≡ rewritten next.out.bytes now → IsCarried live from wrote requests messages replies now → IsCarried after from wrote requests messages replies next
-carries-on live after from wrote requests messages replies now next f e c = record {
+carries-on : (live after : Bool) (from wrote : List ℕ) (requests : List Request) (messages : List (List ℕ)) (sent : List Sent) (replies : List Reply) (now next : socket.Lane) → (after ≡ true → live ≡ true) →
+    next ≡ rewritten next.out.bytes now → IsCarried live from wrote requests messages sent replies now → IsCarried after from wrote requests messages sent replies next
+carries-on live after from wrote requests messages sent replies now next f e c = record {
   calls = c.calls;
   keeps = c.keeps;
   runs = c.runs;
@@ -67,11 +88,15 @@ carries-on live after from wrote requests messages replies now next f e c = reco
   texts = c.texts;
   said = c.said;
   wrote_all = c.wrote_all;
+  unsent = c.unsent;
+  sent_all = c.sent_all;
+  took_all = took-on c.unsent now next (ap (λ (l : socket.Lane). l.ending) e) c.took_all;
+  sound = λ l. ends-on now next (ap (λ (l : socket.Lane). l.ending) e) (c.sound (f l));
 }
 
-carries-fed : (from wrote : List ℕ) (requests : List Request) (messages : List (List ℕ)) (replies : List Reply) (now next : socket.Lane) (piece : List ℕ) → Feeds now piece next →
-    IsCarried true from wrote requests messages replies now → IsCarried true (from ++ piece) wrote requests messages replies next
-carries-fed from wrote requests messages replies now next piece h c = record {
+carries-fed : (from wrote : List ℕ) (requests : List Request) (messages : List (List ℕ)) (sent : List Sent) (replies : List Reply) (now next : socket.Lane) (piece : List ℕ) → Feeds now piece next →
+    IsCarried true from wrote requests messages sent replies now → IsCarried true (from ++ piece) wrote requests messages sent replies next
+carries-fed from wrote requests messages sent replies now next piece h c = record {
   calls = c.calls ++ socket_calls.Feed piece ∷ [];
   keeps = record c.keeps { unread = c.keeps.unread ++ piece };
   runs = session-more (socket.fresh_lane side.Server) c.keeps (record c.keeps { unread = c.keeps.unread ++ piece }) c.calls (socket_calls.Feed piece) c.runs refl;
@@ -91,12 +116,16 @@ carries-fed from wrote requests messages replies now next piece h c = record {
   texts = c.texts;
   said = c.said;
   wrote_all = c.wrote_all;
+  unsent = c.unsent;
+  sent_all = c.sent_all ∙ ap (λ l. l ++ c.unsent) (sym (said-more c.calls (socket_calls.Feed piece) ∙ append-nil (socket_calls.said c.calls)));
+  took_all = took-on c.unsent now next (ap (λ (l : socket.Lane). l.ending) h) c.took_all;
+  sound = λ l. ends-on now next (ap (λ (l : socket.Lane). l.ending) h) (c.sound refl);
 }
 
 -- what was read is lost
-carries-lost : (from wrote : List ℕ) (requests : List Request) (messages : List (List ℕ)) (replies : List Reply) (now next : socket.Lane) (piece : List ℕ) → next ≡ now →
-    IsCarried true from wrote requests messages replies now → IsCarried false (from ++ piece) wrote requests messages replies next
-carries-lost from wrote requests messages replies now next piece e c = record {
+carries-lost : (from wrote : List ℕ) (requests : List Request) (messages : List (List ℕ)) (sent : List Sent) (replies : List Reply) (now next : socket.Lane) (piece : List ℕ) → next ≡ now →
+    IsCarried true from wrote requests messages sent replies now → IsCarried false (from ++ piece) wrote requests messages sent replies next
+carries-lost from wrote requests messages sent replies now next piece e c = record {
   calls = c.calls;
   keeps = c.keeps;
   runs = c.runs;
@@ -114,13 +143,22 @@ carries-lost from wrote requests messages replies now next piece e c = record {
   texts = c.texts;
   said = c.said;
   wrote_all = c.wrote_all;
+  unsent = c.unsent;
+  sent_all = c.sent_all;
+  took_all = took-on c.unsent now next (ap (λ (l : socket.Lane). l.ending) e) c.took_all;
+  sound = λ l. absurd (cc l);
 }
 
+-- of the messages given none isn't taken, or it is gone by a text that was none
+abbrev Taken : List Sent → List Sent → socket.Lane → Type 0
+Taken sent said next = (unsent : List Sent) × (sent ≡ said ++ unsent) × ((unsent ≡ []) ⊎ (next.ending ≡ Some BadText))
+
 -- a call that feeds nothing and drops nothing
-carries-call : (live : Bool) (from written out : List ℕ) (requests : List Request) (messages more : List (List ℕ)) (replies : List Reply) (now next : socket.Lane) (call : socket_calls.Call) →
-    socket_calls.fed (call ∷ []) ≡ [] → socket_calls.dropped (call ∷ []) ≡ [] → socket_calls.heard (call ∷ []) ≡ more → (c : IsCarried live from (written ++ (out ++ now.out.bytes)) requests messages replies now) →
-    Shifted (λ to. socket_calls.Does call c.keeps to) now.out.bytes c.keeps next → IsCarried live from (written ++ (out ++ next.out.bytes)) requests (messages ++ more) replies next
-carries-call live from written out requests messages more replies now next call no_food no_drop hears c s =
+carries-call : (live : Bool) (from written out : List ℕ) (requests : List Request) (messages more : List (List ℕ)) (sent after : List Sent) (replies : List Reply) (now next : socket.Lane) (call : socket_calls.Call) →
+    socket_calls.fed (call ∷ []) ≡ [] → socket_calls.dropped (call ∷ []) ≡ [] → socket_calls.heard (call ∷ []) ≡ more → (c : IsCarried live from (written ++ (out ++ now.out.bytes)) requests messages sent replies now) →
+    Taken after (socket_calls.said c.calls ++ socket_calls.said (call ∷ [])) next → (live ≡ true → IsSound next) →
+    Shifted (λ to. socket_calls.Does call c.keeps to) now.out.bytes c.keeps next → IsCarried live from (written ++ (out ++ next.out.bytes)) requests (messages ++ more) after replies next
+carries-call live from written out requests messages more sent after replies now next call no_food no_drop hears c taken sound s =
     let grown : next.out.bytes ≡ now.out.bytes ++ s.2 = ap (λ (l : socket.Lane). l.out.bytes) s.3 in
     record {
       calls = c.calls ++ call ∷ [];
@@ -141,58 +179,118 @@ carries-call live from written out requests messages more replies now next call 
       said = c.said;
       wrote_all = ap (λ l. written ++ (out ++ l)) grown ∙ ap (λ l. written ++ l) (sym (append_assoc out now.out.bytes s.2)) ∙ sym (append_assoc written (out ++ now.out.bytes) s.2)
           ∙ ap (λ l. l ++ s.2) c.wrote_all ∙ append_assoc c.texts c.keeps.out.bytes s.2 ∙ ap (λ l. c.texts ++ l) (sym s.4);
+      unsent = taken.0;
+      sent_all = taken.1 ∙ ap (λ l. l ++ taken.0) (sym (said-more c.calls call));
+      took_all = taken.2;
+      sound = sound;
     }
 
-carries-taken : (live : Bool) (from written out : List ℕ) (requests : List Request) (messages more : List (List ℕ)) (replies : List Reply) (now next : socket.Lane) (answer : SocketRead) →
-    socket_calls.heard (socket_calls.Read answer ∷ []) ≡ more → Takes now next answer → IsCarried live from (written ++ (out ++ now.out.bytes)) requests messages replies now →
-    IsCarried live from (written ++ (out ++ next.out.bytes)) requests (messages ++ more) replies next
-carries-taken live from written out requests messages more replies now next answer e h c =
-    carries-call live from written out requests messages more replies now next (socket_calls.Read answer) refl refl e c
+-- a call that takes no message
+took-none : (sent said unsent : List Sent) (now next : socket.Lane) → sent ≡ said ++ unsent → (unsent ≡ []) ⊎ (now.ending ≡ Some BadText) → (now.ending ≡ Some BadText → next.ending ≡ Some BadText) →
+    Taken sent (said ++ []) next
+took-none sent said unsent now next e f g = (unsent, e ∙ ap (λ l. l ++ unsent) (sym (append-nil said)), go f) where
+  go : (unsent ≡ []) ⊎ (now.ending ≡ Some BadText) → (unsent ≡ []) ⊎ (next.ending ≡ Some BadText)
+  go (inl k) = inl k
+  go (inr k) = inr (g k)
+
+taken-ending : (now next : socket.Lane) (answer : SocketRead) → Takes now next answer → now.ending ≡ Some BadText → next.ending ≡ Some BadText
+taken-ending now next answer (inl h) e = ap (λ (l : socket.Lane). l.ending) h.1 ∙ e
+taken-ending now next answer (inr h) e = absurd (bad-is-gone now e h.0)
+
+passes-ending : (now : socket.Lane) (ps : _) (next : socket.Lane) → reading.Passes now ps next → next.ending ≡ now.ending
+passes-ending now [] next h = ap (λ (l : socket.Lane). l.ending) h
+passes-ending now (p ∷ ps) next h = passes-ending (after_taking now p) ps next h.2
+
+-- one that gives something, or waits, isn't gone
+steps-sound : (mid next : socket.Lane) (answer : SocketRead) → (answer ≡ read.Gone → ⊥) → mid.ending ≡ None → Steps mid next (Some answer) → IsSound next
+steps-sound mid next (read.Payload payload) n e h = inl (ap (λ (l : socket.Lane). l.ending) h.3 ∙ e)
+steps-sound mid next read.NotYet n e h = inl (ap (λ (l : socket.Lane). l.ending) h.2 ∙ e)
+steps-sound mid next read.Gone n e h = absurd (n refl)
+
+taken-sound : (now next : socket.Lane) (answer : SocketRead) → (answer ≡ read.Gone → ⊥) → Takes now next answer → IsSound next
+taken-sound now next answer n (inl h) = absurd (n h.2)
+taken-sound now next answer n (inr h) = steps-sound h.1.1 next answer n (passes-ending now h.1.0 h.1.1 h.1.2 ∙ h.0) h.1.3
+
+carries-taken : (live : Bool) (from written out : List ℕ) (requests : List Request) (messages more : List (List ℕ)) (sent : List Sent) (replies : List Reply) (now next : socket.Lane) (answer : SocketRead) →
+    socket_calls.heard (socket_calls.Read answer ∷ []) ≡ more → Takes now next answer → (live ≡ true → IsSound next) → IsCarried live from (written ++ (out ++ now.out.bytes)) requests messages sent replies now →
+    IsCarried live from (written ++ (out ++ next.out.bytes)) requests (messages ++ more) sent replies next
+carries-taken live from written out requests messages more sent replies now next answer e h sound c =
+    carries-call live from written out requests messages more sent sent replies now next (socket_calls.Read answer) refl refl e c
+    (took-none sent (socket_calls.said c.calls) c.unsent now next c.sent_all c.took_all (taken-ending now next answer h)) sound
     (takes-shift now.out.bytes c.keeps next answer (subst (λ (l : socket.Lane). Takes l next answer) c.same h))
 
-carries-said : (live : Bool) (from written out : List ℕ) (requests : List Request) (messages : List (List ℕ)) (replies : List Reply) (now next : socket.Lane) (bytes : List ℕ) (text answer : Bool) →
-    sending.Says now next bytes text answer → IsCarried live from (written ++ (out ++ now.out.bytes)) requests messages replies now → IsCarried live from (written ++ (out ++ next.out.bytes)) requests (messages ++ []) replies next
-carries-said live from written out requests messages replies now next bytes text answer h c =
-    carries-call live from written out requests messages [] replies now next (socket_calls.Send (record { is_text = text; bytes = bytes }) answer) refl refl refl c
+-- a message that is given to it is taken, or it is gone by a text that was none
+said-taken : (sent said unsent : List Sent) (now next : socket.Lane) (bytes : List ℕ) (text answer : Bool) → sent ≡ said ++ unsent → (unsent ≡ []) ⊎ (now.ending ≡ Some BadText) → IsSound now →
+    sending.Says now next bytes text answer →
+    Taken (sent ++ record { is_text = text; bytes = bytes } ∷ []) (said ++ socket_calls.said (socket_calls.Send (record { is_text = text; bytes = bytes }) answer ∷ [])) next × IsSound next
+said-taken sent said unsent now next bytes text true e f sound h = (([], ap (λ k. k ++ m ∷ []) (e ∙ ap (λ k. said ++ k) (none f) ∙ append-nil said) ∙ sym (append-nil (said ++ m ∷ [])), inl refl), inl (ap (λ (k : socket.Lane). k.ending) h.2.2 ∙ h.0)) where
+  m : Sent
+  m = record { is_text = text; bytes = bytes }
+
+  none : (unsent ≡ []) ⊎ (now.ending ≡ Some BadText) → unsent ≡ []
+  none (inl k) = k
+  none (inr k) = absurd (bad-is-gone now k h.0)
+said-taken sent said unsent now next bytes text false e f sound h = ((unsent ++ m ∷ [], ap (λ k. k ++ m ∷ []) (e ∙ ap (λ k. k ++ unsent) (sym (append-nil said))) ∙ append_assoc (said ++ []) unsent (m ∷ []), inr (bad sound h)), inr (bad sound h)) where
+  m : Sent
+  m = record { is_text = text; bytes = bytes }
+
+  bad : IsSound now → sending.Says now next bytes text false → next.ending ≡ Some BadText
+  bad (inl k) (inl h) = absurd (h.0 k)
+  bad (inr k) (inl h) = ap (λ (l : socket.Lane). l.ending) h.1 ∙ k
+  bad s (inr h) = ap (λ (l : socket.Lane). l.ending) h.3
+
+carries-said : (live : Bool) (from written out : List ℕ) (requests : List Request) (messages : List (List ℕ)) (sent : List Sent) (replies : List Reply) (now next : socket.Lane) (bytes : List ℕ) (text answer : Bool) → live ≡ true →
+    sending.Says now next bytes text answer → IsCarried live from (written ++ (out ++ now.out.bytes)) requests messages sent replies now →
+    IsCarried live from (written ++ (out ++ next.out.bytes)) requests (messages ++ []) (sent ++ record { is_text = text; bytes = bytes } ∷ []) replies next
+carries-said live from written out requests messages sent replies now next bytes text answer l h c =
+    let m : Sent = record { is_text = text; bytes = bytes } in
+    let k = said-taken sent (socket_calls.said c.calls) c.unsent now next bytes text answer c.sent_all c.took_all (c.sound l) h in
+    carries-call live from written out requests messages [] sent (sent ++ m ∷ []) replies now next (socket_calls.Send m answer) refl refl refl c k.0 (λ l. k.1)
     (says-shift now.out.bytes c.keeps next bytes text answer (subst (λ (l : socket.Lane). sending.Says l next bytes text answer) c.same h))
 
-carries-shut : (live : Bool) (from written out : List ℕ) (requests : List Request) (messages : List (List ℕ)) (replies : List Reply) (now : socket.Lane) →
-    IsCarried live from (written ++ (out ++ now.out.bytes)) requests messages replies now → IsCarried live from (written ++ (out ++ (sending.after_shut now).out.bytes)) requests (messages ++ []) replies (sending.after_shut now)
-carries-shut live from written out requests messages replies now c =
-    carries-call live from written out requests messages [] replies now (sending.after_shut now) socket_calls.Shut refl refl refl c
+-- one that is heard no more is shut
+carries-shut : (from written out : List ℕ) (requests : List Request) (messages : List (List ℕ)) (sent : List Sent) (replies : List Reply) (now : socket.Lane) →
+    IsCarried false from (written ++ (out ++ now.out.bytes)) requests messages sent replies now →
+    IsCarried false from (written ++ (out ++ (sending.after_shut now).out.bytes)) requests (messages ++ []) sent replies (sending.after_shut now)
+carries-shut from written out requests messages sent replies now c =
+    carries-call false from written out requests messages [] sent sent replies now (sending.after_shut now) socket_calls.Shut refl refl refl c
+    (took-none sent (socket_calls.said c.calls) c.unsent now (sending.after_shut now) c.sent_all c.took_all (λ e. ap (λ o. Some (sending.shut_ending o)) e)) (λ l. absurd (cc l))
     (subst (λ (l : socket.Lane). Shifted (λ to. to ≡ sending.after_shut c.keeps) now.out.bytes c.keeps (sending.after_shut l)) (sym c.same) (shut-shift now.out.bytes c.keeps))
 
 -- ---- lanes
 
 -- on a lane of requests no message is heard, and another carries its WebSocket
-abbrev Borne : Bool → List ℕ → List ℕ → List Request → List (List ℕ) → List Reply → Protocol → Type 0
-Borne live from all requests messages replies (Http http_state) = messages ≡ []
-Borne live from all requests messages replies (Socket websocket_state) = IsCarried live from all requests messages replies websocket_state.lane
+abbrev Borne : Bool → List ℕ → List ℕ → List Request → List (List ℕ) → List Sent → List Reply → Protocol → Type 0
+Borne live from all requests messages sent replies (Http http_state) = messages ≡ []
+Borne live from all requests messages sent replies (Response response_state) = ⊥
+Borne live from all requests messages sent replies (Socket websocket_state) = IsCarried live from all requests messages sent replies websocket_state.lane
 
-abbrev IsBorne : List ℕ → List ℕ → List Request → List (List ℕ) → List Reply → Lane → Type 0
-IsBorne from written requests messages replies lane = Borne (is_live lane.stage) from (written ++ waits lane) requests messages replies lane.protocol
+abbrev IsBorne : List ℕ → List ℕ → List Request → List (List ℕ) → List Sent → List Reply → Lane → Type 0
+IsBorne from written requests messages sent replies lane = Borne (is_live lane.stage) from (written ++ waits lane) requests messages sent replies lane.protocol
 
 -- nothing is added, and what waits is written
 abbrev Glides : Lane → Lane → List Answer → Type 0
-Glides x y mine = (from written : List ℕ) (requests : List Request) (messages : List (List ℕ)) (replies : List Reply) → IsBorne from written requests messages replies x →
-    IsBorne from (written ++ written_on x.wire mine) requests messages replies y
+Glides x y mine = (from written : List ℕ) (requests : List Request) (messages : List (List ℕ)) (sent : List Sent) (replies : List Reply) → IsBorne from written requests messages sent replies x →
+    IsBorne from (written ++ written_on x.wire mine) requests messages sent replies y
 
-borne-less : (live after : Bool) (from all : List ℕ) (requests : List Request) (messages : List (List ℕ)) (replies : List Reply) (protocol : Protocol) → (after ≡ true → live ≡ true) →
-    Borne live from all requests messages replies protocol → Borne after from all requests messages replies protocol
-borne-less live after from all requests messages replies (Http http_state) f b = b
-borne-less live after from all requests messages replies (Socket websocket_state) f b = carries-on live after from all requests messages replies websocket_state.lane websocket_state.lane f refl b
+borne-less : (live after : Bool) (from all : List ℕ) (requests : List Request) (messages : List (List ℕ)) (sent : List Sent) (replies : List Reply) (protocol : Protocol) → (after ≡ true → live ≡ true) →
+    Borne live from all requests messages sent replies protocol → Borne after from all requests messages sent replies protocol
+borne-less live after from all requests messages sent replies (Http http_state) f b = b
+borne-less live after from all requests messages sent replies (Response response_state) f b = b
+borne-less live after from all requests messages sent replies (Socket websocket_state) f b = carries-on live after from all requests messages sent replies websocket_state.lane websocket_state.lane f refl b
 
-speaks-borne : (live after : Bool) (from all : List ℕ) (requests : List Request) (messages : List (List ℕ)) (replies : List Reply) (old new : Protocol) → (after ≡ true → live ≡ true) → SpeaksAs old new →
-    Borne live from all requests messages replies old → Borne after from all requests messages replies new
-speaks-borne live after from all requests messages replies (Http old) (Http new) f e b = b
-speaks-borne live after from all requests messages replies (Socket old) (Socket new) f e b = carries-on live after from all requests messages replies old.lane new.lane f (ap (λ (t : WebSocketState). t.lane) e) b
-speaks-borne live after from all requests messages replies _ _ f e b = absurd e
+speaks-borne : (live after : Bool) (from all : List ℕ) (requests : List Request) (messages : List (List ℕ)) (sent : List Sent) (replies : List Reply) (old new : Protocol) → (after ≡ true → live ≡ true) → SpeaksAs old new →
+    Borne live from all requests messages sent replies old → Borne after from all requests messages sent replies new
+speaks-borne live after from all requests messages sent replies (Http old) (Http new) f e b = b
+speaks-borne live after from all requests messages sent replies (Response old) (Response new) f e b = b
+speaks-borne live after from all requests messages sent replies (Socket old) (Socket new) f e b = carries-on live after from all requests messages sent replies old.lane new.lane f (ap (λ (t : WebSocketState). t.lane) e) b
+speaks-borne live after from all requests messages sent replies _ _ f e b = absurd e
 
 glides : (x y : Lane) (mine : List Answer) → written_on x.wire mine ++ waits y ≡ waits x →
-    ((from all : List ℕ) (requests : List Request) (messages : List (List ℕ)) (replies : List Reply) → Borne (is_live x.stage) from all requests messages replies x.protocol → Borne (is_live y.stage) from all requests messages replies y.protocol) → Glides x y mine
-glides x y mine e f from written requests messages replies b =
-    f from ((written ++ written_on x.wire mine) ++ waits y) requests messages replies
-    (subst (λ (l : List ℕ). Borne (is_live x.stage) from l requests messages replies x.protocol) (sym (append_assoc written (written_on x.wire mine) (waits y) ∙ ap (λ l. written ++ l) e)) b)
+    ((from all : List ℕ) (requests : List Request) (messages : List (List ℕ)) (sent : List Sent) (replies : List Reply) → Borne (is_live x.stage) from all requests messages sent replies x.protocol → Borne (is_live y.stage) from all requests messages sent replies y.protocol) → Glides x y mine
+glides x y mine e f from written requests messages sent replies b =
+    f from ((written ++ written_on x.wire mine) ++ waits y) requests messages sent replies
+    (subst (λ (l : List ℕ). Borne (is_live x.stage) from l requests messages sent replies x.protocol) (sym (append_assoc written (written_on x.wire mine) (waits y) ∙ ap (λ l. written ++ l) e)) b)
 
 lives-stage : (x y : Lane) → Lives x y → is_live y.stage ≡ true → is_live x.stage ≡ true
 lives-stage x y l e = (l e).0
@@ -200,7 +298,7 @@ lives-stage x y l e = (l e).0
 writes-glide : (x y : Lane) (mine : List Answer) → WritesOut x y mine → Glides x y mine
 writes-glide x y mine w =
     glides x y mine (go (must_end x.stage (length (waits y)) w.is_whole) refl)
-    (λ from all requests messages replies. speaks-borne (is_live x.stage) (is_live y.stage) from all requests messages replies x.protocol y.protocol (lives-stage x y (writes-live x y mine w)) w.still.protocol) where
+    (λ from all requests messages sent replies. speaks-borne (is_live x.stage) (is_live y.stage) from all requests messages sent replies x.protocol y.protocol (lives-stage x y (writes-live x y mine w)) w.still.protocol) where
       front : written_on x.wire w.sent ++ waits y ≡ waits x
       front = writes-front x.wire (waits x) w.sent (waits y) w.is_whole w.writes
 
@@ -213,8 +311,8 @@ writes-glide x y mine w =
 stage-glides : (x y : Lane) (mine : List Answer) → written_on x.wire mine ≡ [] → waits y ≡ waits x → y.protocol ≡ x.protocol → (is_live y.stage ≡ true → is_live x.stage ≡ true) → Glides x y mine
 stage-glides x y mine e f g l =
     glides x y mine (ap (λ k. k ++ waits y) e ∙ f)
-    (λ from all requests messages replies b. subst (λ (t : Protocol). Borne (is_live y.stage) from all requests messages replies t) (sym g)
-    (borne-less (is_live x.stage) (is_live y.stage) from all requests messages replies x.protocol l b))
+    (λ from all requests messages sent replies b. subst (λ (t : Protocol). Borne (is_live y.stage) from all requests messages sent replies t) (sym g)
+    (borne-less (is_live x.stage) (is_live y.stage) from all requests messages sent replies x.protocol l b))
 
 same-glides : (x y : Lane) (mine : List Answer) → mine ≡ [] → y ≡ x → Glides x y mine
 same-glides x y mine e f =
@@ -262,6 +360,8 @@ settles-messages now before after answers input.Nothing heard h = go (is_overdue
   go false h = ap (λ o. messages_in before.wire o) h.1
 settles-messages now before after answers (input.Request request) heard h = ap (λ o. messages_in before.wire o) h.1
 settles-messages now before after answers (input.Refused refusal) heard h = ap (λ o. messages_in before.wire o) h.1
+settles-messages now before after answers (input.Response status body) heard h = ap (λ o. messages_in before.wire o) h.1
+settles-messages now before after answers input.Upgraded heard h = ap (λ o. messages_in before.wire o) h.1
 settles-messages now before after answers (input.Message bytes) heard h = ap (λ o. messages_in before.wire o) h.1 ∙ ap (λ b. if b then bytes ∷ [] else []) (same before.wire)
 settles-messages now before after answers input.Broken heard h = ap (λ o. messages_in before.wire o) h.1
 settles-messages now before after answers input.Gone heard h = ap (λ o. messages_in before.wire o) h.1
@@ -280,120 +380,127 @@ heard-messages wire None what h = unheard wire what h
 heard-messages wire (Some trace) what h = ap (λ v. message_on wire v) h
 
 -- a lane is borne also with no more requests, messages and replies
-padded : (from written : List ℕ) (requests : List Request) (messages : List (List ℕ)) (replies : List Reply) (more_requests : List Request) (more_replies : List Reply) (lane : Lane) → more_requests ≡ [] → more_replies ≡ [] →
-    IsBorne from written requests messages replies lane → IsBorne from written (requests ++ more_requests) messages (replies ++ more_replies) lane
-padded from written requests messages replies more_requests more_replies lane e f b =
-    subst (λ (l : List Request). IsBorne from written l messages (replies ++ more_replies) lane) (sym (ap (λ l. requests ++ l) e ∙ append-nil requests))
-    (subst (λ (l : List Reply). IsBorne from written requests messages l lane) (sym (ap (λ l. replies ++ l) f ∙ append-nil replies)) b)
+padded : (from written : List ℕ) (requests : List Request) (messages : List (List ℕ)) (sent : List Sent) (replies : List Reply) (more_requests : List Request) (more_replies : List Reply) (lane : Lane) → more_requests ≡ [] → more_replies ≡ [] →
+    IsBorne from written requests messages sent replies lane → IsBorne from written (requests ++ more_requests) messages sent (replies ++ more_replies) lane
+padded from written requests messages sent replies more_requests more_replies lane e f b =
+    subst (λ (l : List Request). IsBorne from written l messages sent (replies ++ more_replies) lane) (sym (ap (λ l. requests ++ l) e ∙ append-nil requests))
+    (subst (λ (l : List Reply). IsBorne from written requests messages sent l lane) (sym (ap (λ l. replies ++ l) f ∙ append-nil replies)) b)
 
 unpadded : {A : Type 0} (xs : List A) (P : List A → Type 0) → P (xs ++ []) → P xs
 unpadded xs P p = subst P (append-nil xs) p
 
-becomes : (from written : List ℕ) (requests : List Request) (messages : List (List ℕ)) (replies : List Reply) (lane mid : Lane) → lane ≡ mid → IsBorne from written requests messages replies mid → IsBorne from written requests messages replies lane
-becomes from written requests messages replies lane mid e b = subst (λ (l : Lane). IsBorne from written requests messages replies l) (sym e) b
+becomes : (from written : List ℕ) (requests : List Request) (messages : List (List ℕ)) (sent : List Sent) (replies : List Reply) (lane mid : Lane) → lane ≡ mid → IsBorne from written requests messages sent replies mid → IsBorne from written requests messages sent replies lane
+becomes from written requests messages sent replies lane mid e b = subst (λ (l : Lane). IsBorne from written requests messages sent replies l) (sym e) b
 
 -- the WebSocket was fed with what was read, and read once
-gets-carried : (from written out : List ℕ) (requests : List Request) (messages more : List (List ℕ)) (replies : List Reply) (old new : socket.Lane) (got : Option (List ℕ)) (answer : SocketRead) →
-    socket_calls.heard (socket_calls.Read answer ∷ []) ≡ more → Gets old got answer new → IsCarried true from (written ++ (out ++ old.out.bytes)) requests messages replies old →
-    IsCarried true (from ++ bytes_of got) (written ++ (out ++ new.out.bytes)) requests (messages ++ more) replies new
-gets-carried from written out requests messages more replies old new got answer e h c =
+gets-carried : (live : Bool) (from written out : List ℕ) (requests : List Request) (messages more : List (List ℕ)) (sent : List Sent) (replies : List Reply) (old new : socket.Lane) (got : Option (List ℕ)) (answer : SocketRead) →
+    (live ≡ true → answer ≡ read.Gone → ⊥) → socket_calls.heard (socket_calls.Read answer ∷ []) ≡ more → Gets old got answer new → IsCarried true from (written ++ (out ++ old.out.bytes)) requests messages sent replies old →
+    IsCarried live (from ++ bytes_of got) (written ++ (out ++ new.out.bytes)) requests (messages ++ more) sent replies new
+gets-carried live from written out requests messages more sent replies old new got answer n e h c =
     let fed = h.1.0 in
-    let food = carries-fed from (written ++ (out ++ old.out.bytes)) requests messages replies old fed (bytes_of got) h.1.1 c in
+    let food = carries-on true live (from ++ bytes_of got) (written ++ (out ++ old.out.bytes)) requests messages sent replies fed fed (λ l. refl) refl
+    (carries-fed from (written ++ (out ++ old.out.bytes)) requests messages sent replies old fed (bytes_of got) h.1.1 c) in
     let bytes : fed.out.bytes ≡ old.out.bytes = ap (λ (l : socket.Lane). l.out.bytes) h.1.1 in
-    carries-taken true (from ++ bytes_of got) written out requests messages more replies fed new answer e h.1.2
-    (subst (λ (l : List ℕ). IsCarried true (from ++ bytes_of got) (written ++ (out ++ l)) requests messages replies fed) (sym bytes) food)
+    carries-taken live (from ++ bytes_of got) written out requests messages more sent replies fed new answer e h.1.2 (λ l. taken-sound fed new answer (n l) h.1.2)
+    (subst (λ (l : List ℕ). IsCarried live (from ++ bytes_of got) (written ++ (out ++ l)) requests messages sent replies fed) (sym bytes) food)
 
-settles-borne : (now : ℕ) (x : Lane) (protocol : Protocol) (after : Lane) (reads answers : List Answer) (what : Input) (heard : Option Event) (from written : List ℕ) (requests : List Request) (messages : List (List ℕ)) (replies : List Reply) →
-    x.stage ≡ Live → Hears x.wire x.protocol protocol reads what → Settles now (after_hearing protocol x) after answers what heard → IsBorne from written requests messages replies x →
-    IsBorne (from ++ read_on x.wire reads) written (requests ++ requests_of what) (messages ++ messages_of what) (replies ++ refusals_of what) after
-settles-borne now x protocol after reads answers what heard from written requests messages replies live h s b = go x.protocol protocol what h s was where
-  was : Borne true from (written ++ (x.out ++ frames_of x.protocol)) requests messages replies x.protocol
-  was = borne-less (is_live x.stage) true from (written ++ (x.out ++ frames_of x.protocol)) requests messages replies x.protocol (λ e. ap is_live live) b
+settles-borne : (now : ℕ) (x : Lane) (protocol : Protocol) (after : Lane) (reads answers : List Answer) (what : Input) (heard : Option Event) (from written : List ℕ) (requests : List Request) (messages : List (List ℕ)) (sent : List Sent) (replies : List Reply) →
+    x.stage ≡ Live → Hears x.wire x.protocol protocol reads what → Settles now (after_hearing protocol x) after answers what heard → IsBorne from written requests messages sent replies x →
+    IsBorne (from ++ read_on x.wire reads) written (requests ++ requests_of what) (messages ++ messages_of what) sent (replies ++ refusals_of what) after
+settles-borne now x protocol after reads answers what heard from written requests messages sent replies live h s b = go x.protocol protocol what h s was where
+  was : Borne true from (written ++ (x.out ++ frames_of x.protocol)) requests messages sent replies x.protocol
+  was = borne-less (is_live x.stage) true from (written ++ (x.out ++ frames_of x.protocol)) requests messages sent replies x.protocol (λ e. ap is_live live) b
 
   none : (rest : List ℕ) (more : List Request) (answers : List Reply) (mid : Lane) (http_state : HttpStateView) → after ≡ mid → mid.protocol ≡ Http http_state → messages ≡ [] →
-      IsBorne rest written more (messages ++ []) answers after
-  none rest more answers mid http_state e f k = becomes rest written more (messages ++ []) answers after mid e
-      (subst (λ (t : Protocol). Borne (is_live mid.stage) rest (written ++ waits mid) more (messages ++ []) answers t) (sym f) (append-nil messages ∙ k))
+      IsBorne rest written more (messages ++ []) sent answers after
+  none rest more answers mid http_state e f k = becomes rest written more (messages ++ []) sent answers after mid e
+      (subst (λ (t : Protocol). Borne (is_live mid.stage) rest (written ++ waits mid) more (messages ++ []) sent answers t) (sym f) (append-nil messages ∙ k))
 
-  carried : (new : WebSocketState) (mid : Lane) (what : Input) → after ≡ mid → requests_of what ≡ [] → refusals_of what ≡ [] → IsBorne (from ++ read_on x.wire reads) written requests (messages ++ messages_of what) replies mid →
-      IsBorne (from ++ read_on x.wire reads) written (requests ++ requests_of what) (messages ++ messages_of what) (replies ++ refusals_of what) after
-  carried new mid what e f g k = becomes (from ++ read_on x.wire reads) written (requests ++ requests_of what) (messages ++ messages_of what) (replies ++ refusals_of what) after mid e
-      (padded (from ++ read_on x.wire reads) written requests (messages ++ messages_of what) replies (requests_of what) (refusals_of what) mid f g k)
+  carried : (new : WebSocketState) (mid : Lane) (what : Input) → after ≡ mid → requests_of what ≡ [] → refusals_of what ≡ [] → IsBorne (from ++ read_on x.wire reads) written requests (messages ++ messages_of what) sent replies mid →
+      IsBorne (from ++ read_on x.wire reads) written (requests ++ requests_of what) (messages ++ messages_of what) sent (replies ++ refusals_of what) after
+  carried new mid what e f g k = becomes (from ++ read_on x.wire reads) written (requests ++ requests_of what) (messages ++ messages_of what) sent (replies ++ refusals_of what) after mid e
+      (padded (from ++ read_on x.wire reads) written requests (messages ++ messages_of what) sent replies (requests_of what) (refusals_of what) mid f g k)
 
-  got : (old new : WebSocketState) (bytes : Option (List ℕ)) (answer : SocketRead) (more : List (List ℕ)) → read_on x.wire reads ≡ bytes_of bytes → socket_calls.heard (socket_calls.Read answer ∷ []) ≡ more → Gets old.lane bytes answer new.lane →
-      IsCarried true from (written ++ (x.out ++ old.lane.out.bytes)) requests messages replies old.lane → IsCarried true (from ++ read_on x.wire reads) (written ++ (x.out ++ new.lane.out.bytes)) requests (messages ++ more) replies new.lane
-  got old new bytes answer more e f g c =
-      subst (λ (l : List ℕ). IsCarried true (from ++ l) (written ++ (x.out ++ new.lane.out.bytes)) requests (messages ++ more) replies new.lane) (sym e)
-      (gets-carried from written x.out requests messages more replies old.lane new.lane bytes answer f g c)
+  got : (live : Bool) (old new : WebSocketState) (bytes : Option (List ℕ)) (answer : SocketRead) (more : List (List ℕ)) → (live ≡ true → answer ≡ read.Gone → ⊥) → read_on x.wire reads ≡ bytes_of bytes → socket_calls.heard (socket_calls.Read answer ∷ []) ≡ more → Gets old.lane bytes answer new.lane →
+      IsCarried true from (written ++ (x.out ++ old.lane.out.bytes)) requests messages sent replies old.lane → IsCarried live (from ++ read_on x.wire reads) (written ++ (x.out ++ new.lane.out.bytes)) requests (messages ++ more) sent replies new.lane
+  got live old new bytes answer more n e f g c =
+      subst (λ (l : List ℕ). IsCarried live (from ++ l) (written ++ (x.out ++ new.lane.out.bytes)) requests (messages ++ more) sent replies new.lane) (sym e)
+      (gets-carried live from written x.out requests messages more sent replies old.lane new.lane bytes answer n f g c)
 
-  stage : (new : WebSocketState) (more : List (List ℕ)) (s : Stage) → IsCarried true (from ++ read_on x.wire reads) (written ++ (x.out ++ new.lane.out.bytes)) requests more replies new.lane →
-      IsBorne (from ++ read_on x.wire reads) written requests more replies (record x { protocol = Socket new; stage = s })
-  stage new more s c = carries-on true (is_live s) (from ++ read_on x.wire reads) (written ++ (x.out ++ new.lane.out.bytes)) requests more replies new.lane new.lane (λ e. refl) refl c
+  stage : (new : WebSocketState) (more : List (List ℕ)) (s : Stage) → IsCarried true (from ++ read_on x.wire reads) (written ++ (x.out ++ new.lane.out.bytes)) requests more sent replies new.lane →
+      IsBorne (from ++ read_on x.wire reads) written requests more sent replies (record x { protocol = Socket new; stage = s })
+  stage new more s c = carries-on true (is_live s) (from ++ read_on x.wire reads) (written ++ (x.out ++ new.lane.out.bytes)) requests more sent replies new.lane new.lane (λ e. refl) refl c
 
-  nothing : (new : WebSocketState) → IsCarried true (from ++ read_on x.wire reads) (written ++ (x.out ++ new.lane.out.bytes)) requests (messages ++ []) replies new.lane → (b : Bool) →
+  nothing : (new : WebSocketState) → IsCarried true (from ++ read_on x.wire reads) (written ++ (x.out ++ new.lane.out.bytes)) requests (messages ++ []) sent replies new.lane → (b : Bool) →
       Chooses b (Falls (record x { protocol = Socket new }) after answers heard) (Passes (record x { protocol = Socket new }) after answers None heard) →
-      IsBorne (from ++ read_on x.wire reads) written (requests ++ []) (messages ++ []) (replies ++ []) after
+      IsBorne (from ++ read_on x.wire reads) written (requests ++ []) (messages ++ []) sent (replies ++ []) after
   nothing new c true f = carried new (record x { protocol = Socket new; stage = Over }) input.Nothing f.2 refl refl (stage new (messages ++ []) Over c)
   nothing new c false f = carried new (record x { protocol = Socket new }) input.Nothing f.2 refl refl (stage new (messages ++ []) x.stage c)
 
-  go : (old new : Protocol) (what : Input) → Hears x.wire old new reads what → Settles now (after_hearing new x) after answers what heard → Borne true from (written ++ (x.out ++ frames_of old)) requests messages replies old →
-      IsBorne (from ++ read_on x.wire reads) written (requests ++ requests_of what) (messages ++ messages_of what) (replies ++ refusals_of what) after
+  go : (old new : Protocol) (what : Input) → Hears x.wire old new reads what → Settles now (after_hearing new x) after answers what heard → Borne true from (written ++ (x.out ++ frames_of old)) requests messages sent replies old →
+      IsBorne (from ++ read_on x.wire reads) written (requests ++ requests_of what) (messages ++ messages_of what) sent (replies ++ refusals_of what) after
   go (Http old) (Http new) input.Nothing h s k = idle (is_overdue now (after_hearing (Http new) x)) s where
     idle : (b : Bool) → Chooses b (Falls (after_hearing (Http new) x) after answers heard) (Passes (after_hearing (Http new) x) after answers None heard) →
-        IsBorne (from ++ read_on x.wire reads) written (requests ++ []) (messages ++ []) (replies ++ []) after
+        IsBorne (from ++ read_on x.wire reads) written (requests ++ []) (messages ++ []) sent (replies ++ []) after
     idle true f = none _ _ _ _ _ f.2 refl k
     idle false f = none _ _ _ _ _ f.2 refl k
   go (Http old) (Http new) (input.Request request) h s k = none _ _ _ _ _ s.2 refl k
   go (Http old) (Http new) (input.Refused refusal) h s k = none _ _ _ _ _ s.2 refl k
   go (Http old) (Http new) (input.Message bytes) h s k = absurd h.is_input
+  go (Http old) (Http new) (input.Response status body) h s k = absurd h.is_input
+  go (Http old) (Http new) input.Upgraded h s k = absurd h.is_input
   go (Http old) (Http new) input.Broken h s k = none _ _ _ _ _ s.2 refl k
   go (Http old) (Http new) input.Gone h s k = absurd h.is_input
   go (Socket old) (Socket new) input.Nothing h s k =
-      nothing new (got old new h.got read.NotYet [] (gives-bytes x.wire _ reads h.got h.read) refl h.is_input.0 k) (is_overdue now (record x { protocol = Socket new })) s
+      nothing new (got true old new h.got read.NotYet [] (λ l e. cc e) (gives-bytes x.wire _ reads h.got h.read) refl h.is_input.0 k) (is_overdue now (record x { protocol = Socket new })) s
   go (Socket old) (Socket new) (input.Request request) h s k = absurd h.is_input
   go (Socket old) (Socket new) (input.Refused refusal) h s k = absurd h.is_input
+  go (Socket old) (Socket new) (input.Response status body) h s k = absurd h.is_input
+  go (Socket old) (Socket new) input.Upgraded h s k = absurd h.is_input
   go (Socket old) (Socket new) (input.Message bytes) h s k =
       carried new (record x { protocol = Socket new }) (input.Message bytes) s.2 refl refl
-      (stage new (messages ++ bytes ∷ []) x.stage (got old new h.got (read.Payload bytes) (bytes ∷ []) (gives-bytes x.wire _ reads h.got h.read) refl h.is_input.0 k))
+      (stage new (messages ++ bytes ∷ []) x.stage (got true old new h.got (read.Payload bytes) (bytes ∷ []) (λ l e. cc e) (gives-bytes x.wire _ reads h.got h.read) refl h.is_input.0 k))
   go (Socket old) (Socket new) input.Broken h s k =
       carried new (record x { protocol = Socket new; stage = Over }) input.Broken s.2 refl refl
-      (subst (λ (l : List ℕ). IsCarried false (from ++ read_on x.wire reads) (written ++ (x.out ++ l)) requests (messages ++ []) replies new.lane) (sym (ap (λ (l : socket.Lane). l.out.bytes) h.is_input.1))
-      (subst (λ (l : List (List ℕ)). IsCarried false (from ++ read_on x.wire reads) (written ++ (x.out ++ old.lane.out.bytes)) requests l replies new.lane) (sym (append-nil messages))
-      (carries-lost from (written ++ (x.out ++ old.lane.out.bytes)) requests messages replies old.lane new.lane (read_on x.wire reads) h.is_input.1 k)))
+      (subst (λ (l : List ℕ). IsCarried false (from ++ read_on x.wire reads) (written ++ (x.out ++ l)) requests (messages ++ []) sent replies new.lane) (sym (ap (λ (l : socket.Lane). l.out.bytes) h.is_input.1))
+      (subst (λ (l : List (List ℕ)). IsCarried false (from ++ read_on x.wire reads) (written ++ (x.out ++ old.lane.out.bytes)) requests l sent replies new.lane) (sym (append-nil messages))
+      (carries-lost from (written ++ (x.out ++ old.lane.out.bytes)) requests messages sent replies old.lane new.lane (read_on x.wire reads) h.is_input.1 k)))
   go (Socket old) (Socket new) input.Gone h s k =
       carried new (record x { since = now; protocol = protocol_after_shut (Socket new); stage = Closing }) input.Gone s.2 refl refl
-      (unpadded (messages ++ []) (λ m. IsBorne (from ++ read_on x.wire reads) written requests m replies (record x { since = now; protocol = protocol_after_shut (Socket new); stage = Closing }))
-      (carries-on true false (from ++ read_on x.wire reads) (written ++ (x.out ++ (sending.after_shut new.lane).out.bytes)) requests ((messages ++ []) ++ []) replies (sending.after_shut new.lane) (sending.after_shut new.lane) (λ e. absurd (cc e)) refl
-      (carries-shut true (from ++ read_on x.wire reads) written x.out requests (messages ++ []) replies new.lane
-      (got old new h.got read.Gone [] (gives-bytes x.wire _ reads h.got h.read) refl h.is_input.0 k))))
+      (unpadded (messages ++ []) (λ m. IsBorne (from ++ read_on x.wire reads) written requests m sent replies (record x { since = now; protocol = protocol_after_shut (Socket new); stage = Closing }))
+      (carries-shut (from ++ read_on x.wire reads) written x.out requests (messages ++ []) sent replies new.lane
+      (got false old new h.got read.Gone [] (λ l e. cc l) (gives-bytes x.wire _ reads h.got h.read) refl h.is_input.0 k)))
+  go (Response old) new what h s k = absurd k
+  go (Http old) (Response new) what h s k = absurd h
+  go (Socket old) (Response new) what h s k = absurd h
   go (Http old) (Socket new) what h s k = absurd h
   go (Socket old) (Http new) what h s k = absurd h
 
-loses-borne : (trace : Option Event) (before after : Lane) (heard : Option Event) (from written : List ℕ) (requests : List Request) (messages : List (List ℕ)) (replies : List Reply) → Loses trace before after heard →
-    IsBorne from written requests messages replies before → IsBorne from written requests messages replies after
-loses-borne (Some here) before after heard from written requests messages replies h b = becomes from written requests messages replies after before h.1 b
-loses-borne None before after heard from written requests messages replies h b = go before.stage h where
-  go : (s : Stage) → LosesAt s before after heard → IsBorne from written requests messages replies after
-  go Live h = becomes from written requests messages replies after before h.1 b
-  go Lost h = becomes from written requests messages replies after (record before { stage = Over }) h.1
-      (borne-less (is_live before.stage) false from (written ++ waits before) requests messages replies before.protocol (λ e. absurd (cc e)) b)
-  go Closing h = becomes from written requests messages replies after before h.1 b
-  go Over h = becomes from written requests messages replies after before h.1 b
+loses-borne : (trace : Option Event) (before after : Lane) (heard : Option Event) (from written : List ℕ) (requests : List Request) (messages : List (List ℕ)) (sent : List Sent) (replies : List Reply) → Loses trace before after heard →
+    IsBorne from written requests messages sent replies before → IsBorne from written requests messages sent replies after
+loses-borne (Some here) before after heard from written requests messages sent replies h b = becomes from written requests messages sent replies after before h.1 b
+loses-borne None before after heard from written requests messages sent replies h b = go before.stage h where
+  go : (s : Stage) → LosesAt s before after heard → IsBorne from written requests messages sent replies after
+  go Live h = becomes from written requests messages sent replies after before h.1 b
+  go Lost h = becomes from written requests messages sent replies after (record before { stage = Over }) h.1
+      (borne-less (is_live before.stage) false from (written ++ waits before) requests messages sent replies before.protocol (λ e. absurd (cc e)) b)
+  go Closing h = becomes from written requests messages sent replies after before h.1 b
+  go Over h = becomes from written requests messages sent replies after before h.1 b
 
 -- what a call adds on a lane
 abbrev Bears : Lane → Lane → List Answer → List Request → List (List ℕ) → List Reply → Type 0
-Bears x y mine more_requests more_messages more_replies = (from written : List ℕ) (requests : List Request) (messages : List (List ℕ)) (replies : List Reply) → IsBorne from written requests messages replies x →
-    IsBorne (from ++ read_on x.wire mine) (written ++ written_on x.wire mine) (requests ++ more_requests) (messages ++ more_messages) (replies ++ more_replies) y
+Bears x y mine more_requests more_messages more_replies = (from written : List ℕ) (requests : List Request) (messages : List (List ℕ)) (sent : List Sent) (replies : List Reply) → IsBorne from written requests messages sent replies x →
+    IsBorne (from ++ read_on x.wire mine) (written ++ written_on x.wire mine) (requests ++ more_requests) (messages ++ more_messages) sent (replies ++ more_replies) y
 
 glides-bear : (x y : Lane) (mine : List Answer) (more_requests : List Request) (more_messages : List (List ℕ)) (more_replies : List Reply) → Glides x y mine → read_on x.wire mine ≡ [] →
     more_requests ≡ [] → more_messages ≡ [] → more_replies ≡ [] → Bears x y mine more_requests more_messages more_replies
-glides-bear x y mine more_requests more_messages more_replies g r e f k from written requests messages replies b =
-    padded (from ++ read_on x.wire mine) (written ++ written_on x.wire mine) requests (messages ++ more_messages) replies more_requests more_replies y e k
-    (subst (λ (l : List (List ℕ)). IsBorne (from ++ read_on x.wire mine) (written ++ written_on x.wire mine) requests l replies y) (sym (ap (λ l. messages ++ l) f ∙ append-nil messages))
-    (subst (λ (l : List ℕ). IsBorne l (written ++ written_on x.wire mine) requests messages replies y) (sym (ap (λ l. from ++ l) r ∙ append-nil from)) (g from written requests messages replies b)))
+glides-bear x y mine more_requests more_messages more_replies g r e f k from written requests messages sent replies b =
+    padded (from ++ read_on x.wire mine) (written ++ written_on x.wire mine) requests (messages ++ more_messages) sent replies more_requests more_replies y e k
+    (subst (λ (l : List (List ℕ)). IsBorne (from ++ read_on x.wire mine) (written ++ written_on x.wire mine) requests l sent replies y) (sym (ap (λ l. messages ++ l) f ∙ append-nil messages))
+    (subst (λ (l : List ℕ). IsBorne l (written ++ written_on x.wire mine) requests messages sent replies y) (sym (ap (λ l. from ++ l) r ∙ append-nil from)) (g from written requests messages sent replies b)))
 
 live-bears : (now : ℕ) (x y : Lane) (mine : List Answer) (own : Option Event) → x.stage ≡ Live → TurnsLive now x y mine own → Bears x y mine (requests_in x.wire own) (messages_in x.wire own) (refusals_in x.wire own)
-live-bears now x y mine own live h from written requests messages replies b =
+live-bears now x y mine own live h from written requests messages sent replies b =
     let mid = after_hearing h.protocol x in
     let w = x.wire in
     let kept = settles-keeps now mid h.settled h.shut h.input h.trace h.settles in
@@ -407,14 +514,14 @@ live-bears now x y mine own live h from written requests messages replies b =
     let trace : messages_in w own ≡ messages_of h.input = loses-messages w h.trace h.said y own h.loses ∙ settles-messages now mid h.settled h.shut h.input h.trace h.settles in
     let refused : refusals_in w own ≡ refusals_of h.input = loses-refusals w h.trace h.said y own h.loses ∙ settles-refusals now mid h.settled h.shut h.input h.trace h.settles in
     let bytes = from ++ read_on w h.read in
-    let settled = settles-borne now x h.protocol h.settled h.read h.shut h.input h.trace from written requests messages replies live h.hears h.settles b in
-    let said = says-glide now h.settled h.said h.written h.says bytes written (requests ++ requests_of h.input) (messages ++ messages_of h.input) (replies ++ refusals_of h.input) settled in
-    let lost = loses-borne h.trace h.said y own bytes (written ++ written_on h.settled.wire h.written) (requests ++ requests_of h.input) (messages ++ messages_of h.input) (replies ++ refusals_of h.input) h.loses said in
-    subst (λ (l : List ℕ). IsBorne (from ++ l) (written ++ written_on w mine) (requests ++ requests_in w own) (messages ++ messages_in w own) (replies ++ refusals_in w own) y) (sym reads)
-    (subst (λ (l : List ℕ). IsBorne bytes (written ++ l) (requests ++ requests_in w own) (messages ++ messages_in w own) (replies ++ refusals_in w own) y) (sym writes)
-    (subst (λ (l : List Request). IsBorne bytes (written ++ written_on h.settled.wire h.written) (requests ++ l) (messages ++ messages_in w own) (replies ++ refusals_in w own) y) (sym asked)
-    (subst (λ (l : List (List ℕ)). IsBorne bytes (written ++ written_on h.settled.wire h.written) (requests ++ requests_of h.input) (messages ++ l) (replies ++ refusals_in w own) y) (sym trace)
-    (subst (λ (l : List Reply). IsBorne bytes (written ++ written_on h.settled.wire h.written) (requests ++ requests_of h.input) (messages ++ messages_of h.input) (replies ++ l) y) (sym refused) lost))))
+    let settled = settles-borne now x h.protocol h.settled h.read h.shut h.input h.trace from written requests messages sent replies live h.hears h.settles b in
+    let said = says-glide now h.settled h.said h.written h.says bytes written (requests ++ requests_of h.input) (messages ++ messages_of h.input) sent (replies ++ refusals_of h.input) settled in
+    let lost = loses-borne h.trace h.said y own bytes (written ++ written_on h.settled.wire h.written) (requests ++ requests_of h.input) (messages ++ messages_of h.input) sent (replies ++ refusals_of h.input) h.loses said in
+    subst (λ (l : List ℕ). IsBorne (from ++ l) (written ++ written_on w mine) (requests ++ requests_in w own) (messages ++ messages_in w own) sent (replies ++ refusals_in w own) y) (sym reads)
+    (subst (λ (l : List ℕ). IsBorne bytes (written ++ l) (requests ++ requests_in w own) (messages ++ messages_in w own) sent (replies ++ refusals_in w own) y) (sym writes)
+    (subst (λ (l : List Request). IsBorne bytes (written ++ written_on h.settled.wire h.written) (requests ++ l) (messages ++ messages_in w own) sent (replies ++ refusals_in w own) y) (sym asked)
+    (subst (λ (l : List (List ℕ)). IsBorne bytes (written ++ written_on h.settled.wire h.written) (requests ++ requests_of h.input) (messages ++ l) sent (replies ++ refusals_in w own) y) (sym trace)
+    (subst (λ (l : List Reply). IsBorne bytes (written ++ written_on h.settled.wire h.written) (requests ++ requests_of h.input) (messages ++ messages_of h.input) sent (replies ++ l) y) (sym refused) lost))))
 
 listens-bear : (now : ℕ) (x y : Lane) (mine : List Answer) (own : Option Event) → Listens now x y mine own → Bears x y mine (requests_in x.wire own) (messages_in x.wire own) (refusals_in x.wire own)
 listens-bear now x y mine own h = go x.stage refl h where
@@ -449,10 +556,10 @@ heeds-bear now what x y mine (inr h) =
 -- ---- saying
 
 -- a lane of requests that upgrades carries a WebSocket that was fed with what it held
-upgraded : (x : Lane) (http_state : HttpStateView) (reply : Reply) (from written : List ℕ) (requests : List Request) (messages : List (List ℕ)) (replies : List Reply) → Asks from requests http_state.lane.held →
+upgraded : (x : Lane) (http_state : HttpStateView) (reply : Reply) (from written : List ℕ) (requests : List Request) (messages : List (List ℕ)) (sent : List Sent) (replies : List Reply) → Asks from requests http_state.lane.held →
     Voiced (written ++ (x.out ++ [])) replies (Http http_state) → messages ≡ [] →
-    IsCarried (is_live x.stage) from (written ++ ((x.out ++ reply_text reply) ++ [])) requests messages (replies ++ reply ∷ []) (record (socket.fresh_lane side.Server) { unread = http_state.lane.held })
-upgraded x http_state reply from written requests messages replies asks wrote none = record {
+    IsCarried (is_live x.stage) from (written ++ ((x.out ++ reply_text reply) ++ [])) requests messages [] (replies ++ reply ∷ []) (record (socket.fresh_lane side.Server) { unread = http_state.lane.held })
+upgraded x http_state reply from written requests messages sent replies asks wrote none = record {
   calls = socket_calls.Feed http_state.lane.held ∷ [];
   keeps = record (socket.fresh_lane side.Server) { unread = http_state.lane.held };
   runs = (record (socket.fresh_lane side.Server) { unread = http_state.lane.held }, refl, refl);
@@ -470,70 +577,107 @@ upgraded x http_state reply from written requests messages replies asks wrote no
   texts = wrote.0 ++ (continue_of wrote.1 ++ reply_text reply);
   said = texts-more wrote.1 replies reply wrote.0 wrote.2;
   wrote_all = reply-said written x.out wrote.0 wrote.1 reply wrote.4;
+  unsent = [];
+  sent_all = refl;
+  took_all = inl refl;
+  sound = λ l. inl refl;
 }
 
 -- a lane that owes a reply says it
-reply-borne : (now : ℕ) (reply : Reply) (x : Lane) (from written : List ℕ) (requests : List Request) (messages : List (List ℕ)) (replies : List Reply) → owes x ≡ true →
-    HeardIn from requests x.protocol → Voiced (written ++ waits x) replies x.protocol → IsBorne from written requests messages replies x → IsBorne from written requests messages (replies ++ reply ∷ []) (after_reply now reply x)
-reply-borne now reply x from written requests messages replies owed asks wrote b = go x.protocol refl owed asks wrote b where
+reply-borne : (now : ℕ) (reply : Reply) (x : Lane) (from written : List ℕ) (requests : List Request) (messages : List (List ℕ)) (sent : List Sent) (replies : List Reply) → owes x ≡ true →
+    HeardIn from requests x.protocol → Voiced (written ++ waits x) replies x.protocol → IsBorne from written requests messages sent replies x → IsBorne from written requests messages [] (replies ++ reply ∷ []) (after_reply now reply x)
+reply-borne now reply x from written requests messages sent replies owed asks wrote b = go x.protocol refl owed asks wrote b where
   http : (http_state : HttpStateView) → x.protocol ≡ Http http_state → Asks from requests http_state.lane.held → Voiced (written ++ (x.out ++ [])) replies (Http http_state) → messages ≡ [] → (b : Bool) →
-      IsBorne from written requests messages (replies ++ reply ∷ []) (if b then record x { protocol = new_socket (rest_of x.protocol); out = x.out ++ reply_text reply }
+      IsBorne from written requests messages [] (replies ++ reply ∷ []) (if b then record x { protocol = new_socket (rest_of x.protocol); out = x.out ++ reply_text reply }
       else record x { protocol = protocol_after_reply x.protocol; out = x.out ++ reply_text reply; since = now })
   http http_state e asks wrote none true =
-      subst (λ (t : Protocol). IsBorne from written requests messages (replies ++ reply ∷ []) (record x { protocol = new_socket (rest_of t); out = x.out ++ reply_text reply })) (sym e)
-      (upgraded x http_state reply from written requests messages replies asks wrote none)
+      subst (λ (t : Protocol). IsBorne from written requests messages [] (replies ++ reply ∷ []) (record x { protocol = new_socket (rest_of t); out = x.out ++ reply_text reply })) (sym e)
+      (upgraded x http_state reply from written requests messages sent replies asks wrote none)
   http http_state e asks wrote none false =
-      subst (λ (t : Protocol). IsBorne from written requests messages (replies ++ reply ∷ []) (record x { protocol = protocol_after_reply t; out = x.out ++ reply_text reply; since = now })) (sym e) none
+      subst (λ (t : Protocol). IsBorne from written requests messages [] (replies ++ reply ∷ []) (record x { protocol = protocol_after_reply t; out = x.out ++ reply_text reply; since = now })) (sym e) none
 
   go : (protocol : Protocol) → x.protocol ≡ protocol → (is_live x.stage && is_busy protocol) ≡ true → HeardIn from requests protocol → Voiced (written ++ (x.out ++ frames_of protocol)) replies protocol →
-      Borne (is_live x.stage) from (written ++ (x.out ++ frames_of protocol)) requests messages replies protocol → IsBorne from written requests messages (replies ++ reply ∷ []) (after_reply now reply x)
+      Borne (is_live x.stage) from (written ++ (x.out ++ frames_of protocol)) requests messages sent replies protocol → IsBorne from written requests messages [] (replies ++ reply ∷ []) (after_reply now reply x)
   go (Http http_state) e owed asks wrote b = http http_state e asks wrote b (reply.status == SWITCHING)
+  go (Response response_state) e owed asks wrote b = absurd b
   go (Socket websocket_state) e owed asks wrote b = absurd (cc (sym (dead x.stage) ∙ owed))
 
-replies-borne : (now : ℕ) (reply : Reply) (x y : Lane) (mine : List Answer) (from written : List ℕ) (requests : List Request) (messages : List (List ℕ)) (replies : List Reply) → Replies now reply x y mine →
-    HeardIn from requests x.protocol → Voiced (written ++ waits x) replies x.protocol → IsBorne from written requests messages replies x →
-    IsBorne from (written ++ written_on x.wire mine) requests messages (replies ++ (if owes x then reply ∷ [] else [])) y
-replies-borne now reply x y mine from written requests messages replies h asks wrote b = go (owes x) refl h where
-  go : (c : Bool) → owes x ≡ c → Chooses c (SaysMore (after_reply now reply x) y mine) ((mine ≡ []) × (y ≡ x)) → IsBorne from (written ++ written_on x.wire mine) requests messages (replies ++ (if c then reply ∷ [] else [])) y
+replies-borne : (now : ℕ) (reply : Reply) (x y : Lane) (mine : List Answer) (from written : List ℕ) (requests : List Request) (messages : List (List ℕ)) (sent : List Sent) (replies : List Reply) → Replies now reply x y mine →
+    HeardIn from requests x.protocol → Voiced (written ++ waits x) replies x.protocol → IsBorne from written requests messages sent replies x →
+    IsBorne from (written ++ written_on x.wire mine) requests messages (if owes x then [] else sent) (replies ++ (if owes x then reply ∷ [] else [])) y
+replies-borne now reply x y mine from written requests messages sent replies h asks wrote b = go (owes x) refl h where
+  go : (c : Bool) → owes x ≡ c → Chooses c (SaysMore (after_reply now reply x) y mine) ((mine ≡ []) × (y ≡ x)) → IsBorne from (written ++ written_on x.wire mine) requests messages (if c then [] else sent) (replies ++ (if c then reply ∷ [] else [])) y
   go true e h =
-      subst (λ n. IsBorne from (written ++ written_on n mine) requests messages (replies ++ reply ∷ []) y) (replied-wire now reply x)
-      (more-glide (after_reply now reply x) y mine h from written requests messages (replies ++ reply ∷ []) (reply-borne now reply x from written requests messages replies e asks wrote b))
+      subst (λ n. IsBorne from (written ++ written_on n mine) requests messages [] (replies ++ reply ∷ []) y) (replied-wire now reply x)
+      (more-glide (after_reply now reply x) y mine h from written requests messages [] (replies ++ reply ∷ []) (reply-borne now reply x from written requests messages sent replies e asks wrote b))
   go false e h =
-      subst (λ (l : List Reply). IsBorne from (written ++ written_on x.wire mine) requests messages l y) (sym (append-nil replies)) (same-glides x y mine h.0 h.1 from written requests messages replies b)
+      subst (λ (l : List Reply). IsBorne from (written ++ written_on x.wire mine) requests messages sent l y) (sym (append-nil replies)) (same-glides x y mine h.0 h.1 from written requests messages sent replies b)
 
-put-borne : (live : Bool) (protocol : Protocol) (bytes : List ℕ) (text : Bool) (x mid : Lane) (is_put : Bool) → x.protocol ≡ protocol → PutsAt live protocol bytes text x mid is_put →
-    (from written : List ℕ) (requests : List Request) (messages : List (List ℕ)) (replies : List Reply) → IsBorne from written requests messages replies x → IsBorne from written requests messages replies mid
-put-borne true (Socket websocket_state) bytes text x mid is_put e h from written requests messages replies b =
-    becomes from written requests messages replies mid (record x { protocol = Socket (record websocket_state { lane = h.0 }) }) h.2
-    (unpadded messages (λ m. IsCarried (is_live x.stage) from (written ++ (x.out ++ h.0.out.bytes)) requests m replies h.0)
-    (carries-said (is_live x.stage) from written x.out requests messages replies websocket_state.lane h.0 bytes text is_put h.1
-    (subst (λ (t : Protocol). Borne (is_live x.stage) from (written ++ (x.out ++ frames_of t)) requests messages replies t) e b)))
-put-borne true (Http http_state) bytes text x mid is_put e h from written requests messages replies b = becomes from written requests messages replies mid x h.1 b
-put-borne false protocol bytes text x mid is_put e h from written requests messages replies b = becomes from written requests messages replies mid x h.1 b
+-- what is given on a lane that goes on is taken, and nothing else
+abbrev after_sent : Bool → List Sent → Sent → List Sent
+after_sent goes sent m = if goes then sent ++ m ∷ [] else sent
 
-sends-glide : (now : ℕ) (bytes : List ℕ) (text : Bool) (x y : Lane) (mine : List Answer) → Sends now bytes text x y mine → Glides x y mine
-sends-glide now bytes text x y mine h from written requests messages replies b = go h.0 h.1 h.2 h.3 where
-  go : (mid : Lane) (c : Bool) → Puts bytes text x mid c → SaysPut now c mid y mine → IsBorne from (written ++ written_on x.wire mine) requests messages replies y
+idle-borne : (goes : Bool) (from all : List ℕ) (requests : List Request) (messages : List (List ℕ)) (sent : List Sent) (replies : List Reply) (m : Sent) (live : Bool) (protocol : Protocol) → live ≡ false →
+    (hears_no_request protocol ≡ true → live ≡ goes) → Borne live from all requests messages sent replies protocol → Borne live from all requests messages (after_sent goes sent m) replies protocol
+idle-borne goes from all requests messages sent replies m live (Http http_state) l r b = b
+idle-borne goes from all requests messages sent replies m live (Response response_state) l r b = b
+idle-borne goes from all requests messages sent replies m live (Socket websocket_state) l r b =
+    subst (λ c. IsCarried live from all requests messages (after_sent c sent m) replies websocket_state.lane) (sym l ∙ r refl) b
+
+put-borne : (goes live : Bool) (protocol : Protocol) (bytes : List ℕ) (text : Bool) (x mid : Lane) (is_put : Bool) → is_live x.stage ≡ live → x.protocol ≡ protocol → (hears_no_request x.protocol ≡ true → is_live x.stage ≡ goes) →
+    PutsAt live protocol bytes text x mid is_put →
+    (from written : List ℕ) (requests : List Request) (messages : List (List ℕ)) (sent : List Sent) (replies : List Reply) → IsBorne from written requests messages sent replies x →
+    IsBorne from written requests messages (after_sent goes sent (record { is_text = text; bytes = bytes })) replies mid
+put-borne goes true (Socket websocket_state) bytes text x mid is_put l e r h from written requests messages sent replies b =
+    let m : Sent = record { is_text = text; bytes = bytes } in
+    let on : true ≡ goes = sym l ∙ r (ap hears_no_request e) in
+    subst (λ c. IsBorne from written requests messages (after_sent c sent m) replies mid) on
+    (becomes from written requests messages (sent ++ m ∷ []) replies mid (record x { protocol = Socket (record websocket_state { lane = h.0 }) }) h.2
+    (unpadded messages (λ k. IsCarried (is_live x.stage) from (written ++ (x.out ++ h.0.out.bytes)) requests k (sent ++ m ∷ []) replies h.0)
+    (carries-said (is_live x.stage) from written x.out requests messages sent replies websocket_state.lane h.0 bytes text is_put l h.1
+    (subst (λ (t : Protocol). Borne (is_live x.stage) from (written ++ (x.out ++ frames_of t)) requests messages sent replies t) e b))))
+put-borne goes true (Http http_state) bytes text x mid is_put l e r h from written requests messages sent replies b =
+    let all = after_sent goes sent (record { is_text = text; bytes = bytes }) in
+    let none : messages ≡ [] = subst (λ (t : Protocol). Borne (is_live x.stage) from (written ++ (x.out ++ frames_of t)) requests messages sent replies t) e b in
+    becomes from written requests messages all replies mid x h.1
+    (subst (λ (t : Protocol). Borne (is_live x.stage) from (written ++ (x.out ++ frames_of t)) requests messages all replies t) (sym e) none)
+put-borne goes true (Response response_state) bytes text x mid is_put l e r h from written requests messages sent replies b =
+    absurd (subst (λ (t : Protocol). Borne (is_live x.stage) from (written ++ (x.out ++ frames_of t)) requests messages sent replies t) e b)
+put-borne goes false protocol bytes text x mid is_put l e r h from written requests messages sent replies b =
+    let m : Sent = record { is_text = text; bytes = bytes } in
+    becomes from written requests messages (after_sent goes sent m) replies mid x h.1
+    (idle-borne goes from (written ++ waits x) requests messages sent replies m (is_live x.stage) x.protocol l r b)
+
+sends-borne : (goes : Bool) (now : ℕ) (bytes : List ℕ) (text : Bool) (x y : Lane) (mine : List Answer) → (hears_no_request x.protocol ≡ true → is_live x.stage ≡ goes) → Sends now bytes text x y mine →
+    (from written : List ℕ) (requests : List Request) (messages : List (List ℕ)) (sent : List Sent) (replies : List Reply) → IsBorne from written requests messages sent replies x →
+    IsBorne from (written ++ written_on x.wire mine) requests messages (after_sent goes sent (record { is_text = text; bytes = bytes })) replies y
+sends-borne goes now bytes text x y mine r h from written requests messages sent replies b = go h.0 h.1 h.2 h.3 where
+  all : List Sent
+  all = after_sent goes sent (record { is_text = text; bytes = bytes })
+
+  rest : (mid : Lane) (c : Bool) → SaysPut now c mid y mine → IsBorne from written requests messages all replies mid → IsBorne from (written ++ written_on mid.wire mine) requests messages all replies y
+  rest mid true s put = subst (λ (l : Lane). IsBorne from (written ++ written_on mid.wire mine) requests messages all replies l) (sym s.2) (gathered-glide mid s.0 mine s.1 from written requests messages all replies put)
+  rest mid false s put = same-glides mid y mine s.0 s.1 from written requests messages all replies put
+
+  go : (mid : Lane) (c : Bool) → Puts bytes text x mid c → SaysPut now c mid y mine → IsBorne from (written ++ written_on x.wire mine) requests messages all replies y
   go mid c p s =
-      let put = put-borne (is_live x.stage) x.protocol bytes text x mid c refl p from written requests messages replies b in
-      subst (λ n. IsBorne from (written ++ written_on n mine) requests messages replies y) (put-wire (is_live x.stage) x.protocol bytes text x mid c p) (rest c s put) where
-        rest : (c : Bool) → SaysPut now c mid y mine → IsBorne from written requests messages replies mid → IsBorne from (written ++ written_on mid.wire mine) requests messages replies y
-        rest true s put = subst (λ (l : Lane). IsBorne from (written ++ written_on mid.wire mine) requests messages replies l) (sym s.2) (gathered-glide mid s.0 mine s.1 from written requests messages replies put)
-        rest false s put = same-glides mid y mine s.0 s.1 from written requests messages replies put
+      let put = put-borne goes (is_live x.stage) x.protocol bytes text x mid c refl refl r p from written requests messages sent replies b in
+      subst (λ n. IsBorne from (written ++ written_on n mine) requests messages all replies y) (put-wire (is_live x.stage) x.protocol bytes text x mid c p) (rest mid c s put)
 
-shut-borne : (x : Lane) (protocol : Protocol) (from written : List ℕ) (requests : List Request) (messages : List (List ℕ)) (replies : List Reply) → Borne (is_live x.stage) from (written ++ (x.out ++ frames_of protocol)) requests messages replies protocol →
-    Borne false from (written ++ (x.out ++ frames_of (protocol_after_shut protocol))) requests messages replies (protocol_after_shut protocol)
-shut-borne x (Http http_state) from written requests messages replies b = b
-shut-borne x (Socket websocket_state) from written requests messages replies b =
-    carries-on (is_live x.stage) false from (written ++ (x.out ++ (sending.after_shut websocket_state.lane).out.bytes)) requests messages replies (sending.after_shut websocket_state.lane) (sending.after_shut websocket_state.lane) (λ e. absurd (cc e)) refl
-    (unpadded messages (λ m. IsCarried (is_live x.stage) from (written ++ (x.out ++ (sending.after_shut websocket_state.lane).out.bytes)) requests m replies (sending.after_shut websocket_state.lane))
-    (carries-shut (is_live x.stage) from written x.out requests messages replies websocket_state.lane b))
+shut-borne : (x : Lane) (protocol : Protocol) (from written : List ℕ) (requests : List Request) (messages : List (List ℕ)) (sent : List Sent) (replies : List Reply) → Borne (is_live x.stage) from (written ++ (x.out ++ frames_of protocol)) requests messages sent replies protocol →
+    Borne false from (written ++ (x.out ++ frames_of (protocol_after_shut protocol))) requests messages sent replies (protocol_after_shut protocol)
+shut-borne x (Http http_state) from written requests messages sent replies b = b
+shut-borne x (Response response_state) from written requests messages sent replies b = b
+shut-borne x (Socket websocket_state) from written requests messages sent replies b =
+    unpadded messages (λ m. IsCarried false from (written ++ (x.out ++ (sending.after_shut websocket_state.lane).out.bytes)) requests m sent replies (sending.after_shut websocket_state.lane))
+    (carries-shut from written x.out requests messages sent replies websocket_state.lane
+    (carries-on (is_live x.stage) false from (written ++ (x.out ++ websocket_state.lane.out.bytes)) requests messages sent replies websocket_state.lane websocket_state.lane (λ e. absurd (cc e)) refl b))
 
 shuts-glide : (now : ℕ) (x y : Lane) (mine : List Answer) → Shuts now x y mine → Glides x y mine
 shuts-glide now x y mine h = go (is_live x.stage) h where
   go : (b : Bool) → Chooses b (WritesOut (record x { since = now; protocol = protocol_after_shut x.protocol; stage = Closing }) y mine) ((mine ≡ []) × (y ≡ x)) → Glides x y mine
-  go true h = λ from written requests messages replies b.
-      writes-glide (record x { since = now; protocol = protocol_after_shut x.protocol; stage = Closing }) y mine h from written requests messages replies (shut-borne x x.protocol from written requests messages replies b)
+  go true h = λ from written requests messages sent replies b.
+      writes-glide (record x { since = now; protocol = protocol_after_shut x.protocol; stage = Closing }) y mine h from written requests messages sent replies (shut-borne x x.protocol from written requests messages sent replies b)
   go false h = same-glides x y mine h.0 h.1
 
 -- ---- sessions
@@ -549,44 +693,67 @@ messages-more wire (session.sent lane bytes text full answers) calls = sym (appe
 messages-more wire (session.shut lane answers) calls = sym (append-nil (messages_on wire calls))
 messages-more wire (session.wrote lane answers) calls = sym (append-nil (messages_on wire calls))
 
+-- the messages that were given on a lane since a reply was said there last, as long as it went on, after a call, where these were before
+abbrev sent_by : ℕ → Bool → Bool → Call → List Sent → List Sent
+sent_by wire owed goes (session.replied at reply answers) sent = if (at == wire) && owed then [] else sent
+sent_by wire owed goes (session.sent at bytes text full answers) sent = if (at == wire) && goes then sent ++ record { is_text = text; bytes = bytes } ∷ [] else sent
+sent_by wire owed goes _ sent = sent
+
+sent-more : (call : Call) (calls : List Call) (x : Lane) → IsOwed calls x → sent_on x.wire (call ∷ calls) ≡ sent_by x.wire (owes x) (goes_on x.wire calls) call (sent_on x.wire calls)
+sent-more (session.heard what answers) calls x k = refl
+sent-more (session.replied at reply answers) calls x k = ap (λ b. if (at == x.wire) && b then [] else sent_on x.wire calls) (sym k)
+sent-more (session.sent at bytes text full answers) calls x k = refl
+sent-more (session.shut at answers) calls x k = refl
+sent-more (session.wrote at answers) calls x k = refl
+
 -- what a lane heard and said before, it does after a call with what this adds
-abbrev BearsAt : Lane → Lane → List Answer → List ℕ → List ℕ → List Request → List (List ℕ) → List Reply → List Request → List (List ℕ) → List Reply → Type 0
-BearsAt x y mine from written requests messages replies more_requests more_messages more_replies =
-    IsBorne (from ++ read_on x.wire mine) (written ++ written_on x.wire mine) (requests ++ more_requests) (messages ++ more_messages) (replies ++ more_replies) y
+abbrev BearsAt : Lane → Lane → List Answer → List ℕ → List ℕ → List Request → List (List ℕ) → List Sent → List Reply → List Request → List (List ℕ) → List Reply → Type 0
+BearsAt x y mine from written requests messages sent replies more_requests more_messages more_replies =
+    IsBorne (from ++ read_on x.wire mine) (written ++ written_on x.wire mine) (requests ++ more_requests) (messages ++ more_messages) sent (replies ++ more_replies) y
 
 -- a reply is the only thing that needs to know more of the lane
-moves-bear : (call : Call) (x y : Lane) (from written : List ℕ) (requests : List Request) (messages : List (List ℕ)) (replies : List Reply) → Moves call x y → HeardIn from requests x.protocol → Voiced (written ++ waits x) replies x.protocol →
-    IsBorne from written requests messages replies x → BearsAt x y (share x.wire (answers_in call)) from written requests messages replies (requests_by x.wire call) (messages_by x.wire call) (replies_by x.wire (owes x) call)
-moves-bear (session.heard what answers) x y from written requests messages replies h asks wrote b = heeds-bear what.now what.event x y (share x.wire answers) h from written requests messages replies b
-moves-bear (session.replied at reply answers) x y from written requests messages replies h asks wrote b =
-    by-number at (Replies h.0 reply) x y mine (λ c. BearsAt x y mine from written requests messages replies [] [] (if c && owes x then reply ∷ [] else []))
-    (λ s. more (read_on x.wire mine) (replies ++ (if owes x then reply ∷ [] else [])) ((replies-silent h.0 reply x y mine s).0 x.wire) (replies-borne h.0 reply x y mine from written requests messages replies s asks wrote b))
-    (λ e f. glides-bear x y mine [] [] [] (same-glides x y mine f e) (ap (λ l. read_on x.wire l) f) refl refl refl from written requests messages replies b) h.1 where
+-- nothing was read, and no request and no message came
+widened : (bytes from written : List ℕ) (requests : List Request) (messages : List (List ℕ)) (sent : List Sent) (replies : List Reply) (y : Lane) → bytes ≡ [] → IsBorne from written requests messages sent replies y →
+    IsBorne (from ++ bytes) written (requests ++ []) (messages ++ []) sent replies y
+widened bytes from written requests messages sent replies y e k =
+    subst (λ (l : List ℕ). IsBorne l written (requests ++ []) (messages ++ []) sent replies y) (sym (ap (λ l. from ++ l) e ∙ append-nil from))
+    (subst (λ (l : List Request). IsBorne from written l (messages ++ []) sent replies y) (sym (append-nil requests))
+    (subst (λ (l : List (List ℕ)). IsBorne from written requests l sent replies y) (sym (append-nil messages)) k))
+
+moves-bear : (goes : Bool) (call : Call) (x y : Lane) (from written : List ℕ) (requests : List Request) (messages : List (List ℕ)) (sent : List Sent) (replies : List Reply) → (hears_no_request x.protocol ≡ true → is_live x.stage ≡ goes) → Moves call x y → HeardIn from requests x.protocol → Voiced (written ++ waits x) replies x.protocol →
+    IsBorne from written requests messages sent replies x →
+    BearsAt x y (share x.wire (answers_in call)) from written requests messages (sent_by x.wire (owes x) goes call sent) replies (requests_by x.wire call) (messages_by x.wire call) (replies_by x.wire (owes x) call)
+moves-bear goes (session.heard what answers) x y from written requests messages sent replies r h asks wrote b = heeds-bear what.now what.event x y (share x.wire answers) h from written requests messages sent replies b
+moves-bear goes (session.replied at reply answers) x y from written requests messages sent replies r h asks wrote b =
+    by-number at (Replies h.0 reply) x y mine (λ c. BearsAt x y mine from written requests messages (if c && owes x then [] else sent) replies [] [] (if c && owes x then reply ∷ [] else []))
+    (λ s. widened (read_on x.wire mine) from (written ++ written_on x.wire mine) requests messages (if owes x then [] else sent) (replies ++ (if owes x then reply ∷ [] else [])) y
+    ((replies-silent h.0 reply x y mine s).0 x.wire) (replies-borne h.0 reply x y mine from written requests messages sent replies s asks wrote b))
+    (λ e f. glides-bear x y mine [] [] [] (same-glides x y mine f e) (ap (λ l. read_on x.wire l) f) refl refl refl from written requests messages sent replies b) h.1 where
+      mine : List Answer
+      mine = share x.wire answers
+moves-bear goes (session.sent at bytes text full answers) x y from written requests messages sent replies r h asks wrote b =
+    by-number at (Sends h.0 bytes text) x y mine (λ c. BearsAt x y mine from written requests messages (if c && goes then sent ++ record { is_text = text; bytes = bytes } ∷ [] else sent) replies [] [] [])
+    (λ s. subst (λ (l : List Reply). IsBorne (from ++ read_on x.wire mine) (written ++ written_on x.wire mine) (requests ++ []) (messages ++ []) all l y) (sym (append-nil replies))
+    (widened (read_on x.wire mine) from (written ++ written_on x.wire mine) requests messages all replies y ((sends-silent h.0 bytes text x y mine s).0 x.wire)
+    (sends-borne goes h.0 bytes text x y mine r s from written requests messages sent replies b)))
+    (λ e f. glides-bear x y mine [] [] [] (same-glides x y mine f e) (ap (λ l. read_on x.wire l) f) refl refl refl from written requests messages sent replies b) h.1 where
       mine : List Answer
       mine = share x.wire answers
 
-      more : (bytes : List ℕ) (said : List Reply) → bytes ≡ [] → IsBorne from (written ++ written_on x.wire (share x.wire answers)) requests messages said y →
-          IsBorne (from ++ bytes) (written ++ written_on x.wire (share x.wire answers)) (requests ++ []) (messages ++ []) said y
-      more bytes said e k =
-          subst (λ (l : List ℕ). IsBorne l (written ++ written_on x.wire (share x.wire answers)) (requests ++ []) (messages ++ []) said y) (sym (ap (λ l. from ++ l) e ∙ append-nil from))
-          (subst (λ (l : List Request). IsBorne from (written ++ written_on x.wire (share x.wire answers)) l (messages ++ []) said y) (sym (append-nil requests))
-          (subst (λ (l : List (List ℕ)). IsBorne from (written ++ written_on x.wire (share x.wire answers)) requests l said y) (sym (append-nil messages)) k))
-moves-bear (session.sent at bytes text full answers) x y from written requests messages replies h asks wrote b =
-    by-number at (Sends h.0 bytes text) x y (share x.wire answers) (λ c. BearsAt x y (share x.wire answers) from written requests messages replies [] [] [])
-    (λ s. glides-bear x y (share x.wire answers) [] [] [] (sends-glide h.0 bytes text x y (share x.wire answers) s) ((sends-silent h.0 bytes text x y (share x.wire answers) s).0 x.wire) refl refl refl from written requests messages replies b)
-    (λ e f. glides-bear x y (share x.wire answers) [] [] [] (same-glides x y (share x.wire answers) f e) (ap (λ l. read_on x.wire l) f) refl refl refl from written requests messages replies b) h.1
-moves-bear (session.shut at answers) x y from written requests messages replies h asks wrote b =
-    by-number at (Shuts h.0) x y (share x.wire answers) (λ c. BearsAt x y (share x.wire answers) from written requests messages replies [] [] [])
-    (λ s. glides-bear x y (share x.wire answers) [] [] [] (shuts-glide h.0 x y (share x.wire answers) s) ((shuts-silent h.0 x y (share x.wire answers) s).0 x.wire) refl refl refl from written requests messages replies b)
-    (λ e f. glides-bear x y (share x.wire answers) [] [] [] (same-glides x y (share x.wire answers) f e) (ap (λ l. read_on x.wire l) f) refl refl refl from written requests messages replies b) h.1
-moves-bear (session.wrote at answers) x y from written requests messages replies h asks wrote b =
-    glides-bear x y (share x.wire answers) [] [] [] (bystander-glide 0 x y (share x.wire answers) h) ((bystander-silent 0 x y (share x.wire answers) h).0 x.wire) refl refl refl from written requests messages replies b
+      all : List Sent
+      all = after_sent goes sent (record { is_text = text; bytes = bytes })
+moves-bear goes (session.shut at answers) x y from written requests messages sent replies r h asks wrote b =
+    by-number at (Shuts h.0) x y (share x.wire answers) (λ c. BearsAt x y (share x.wire answers) from written requests messages sent replies [] [] [])
+    (λ s. glides-bear x y (share x.wire answers) [] [] [] (shuts-glide h.0 x y (share x.wire answers) s) ((shuts-silent h.0 x y (share x.wire answers) s).0 x.wire) refl refl refl from written requests messages sent replies b)
+    (λ e f. glides-bear x y (share x.wire answers) [] [] [] (same-glides x y (share x.wire answers) f e) (ap (λ l. read_on x.wire l) f) refl refl refl from written requests messages sent replies b) h.1
+moves-bear goes (session.wrote at answers) x y from written requests messages sent replies r h asks wrote b =
+    glides-bear x y (share x.wire answers) [] [] [] (bystander-glide 0 x y (share x.wire answers) h) ((bystander-silent 0 x y (share x.wire answers) h).0 x.wire) refl refl refl from written requests messages sent replies b
 
 abbrev BorneAt : ℕ → List Call → Lane → Type 0
-BorneAt wire calls lane = IsBorne (read_on wire (answers_of calls)) (written_on wire (answers_of calls)) (requests_on wire calls) (messages_on wire calls) (replies_on wire calls) lane
+BorneAt wire calls lane = IsBorne (read_on wire (answers_of calls)) (written_on wire (answers_of calls)) (requests_on wire calls) (messages_on wire calls) (sent_on wire calls) (replies_on wire calls) lane
 
 abbrev IsWhole : List Call → Lane → Type 0
-IsWhole calls lane = IsAsked calls lane × HasSaid calls lane × BorneAt lane.wire calls lane
+IsWhole calls lane = IsAsked calls lane × HasSaid calls lane × IsLasting calls lane × BorneAt lane.wire calls lane
 
 borne-here : (call : Call) (calls : List Call) (x y : Lane) → IsWhole calls x → Moves call x y → BorneAt x.wire (call ∷ calls) y
 borne-here call calls x y k h =
@@ -594,27 +761,31 @@ borne-here call calls x y k h =
     let mine = share w (answers_in call) in
     let from = read_on w (answers_of calls) in
     let written = written_on w (answers_of calls) in
-    let moved = moves-bear call x y from written (requests_on w calls) (messages_on w calls) (replies_on w calls) h k.0 k.1.1 k.2 in
-    subst (λ (l : List ℕ). IsBorne l (written_on w (answers_of (call ∷ calls))) (requests_on w (call ∷ calls)) (messages_on w (call ∷ calls)) (replies_on w (call ∷ calls)) y) (sym (read-more w calls call))
-    (subst (λ (l : List ℕ). IsBorne (from ++ read_on w mine) l (requests_on w (call ∷ calls)) (messages_on w (call ∷ calls)) (replies_on w (call ∷ calls)) y) (sym (written-more w calls call))
-    (subst (λ (l : List Request). IsBorne (from ++ read_on w mine) (written ++ written_on w mine) l (messages_on w (call ∷ calls)) (replies_on w (call ∷ calls)) y) (sym (requests-more w call calls))
-    (subst (λ (l : List (List ℕ)). IsBorne (from ++ read_on w mine) (written ++ written_on w mine) (requests_on w calls ++ requests_by w call) l (replies_on w (call ∷ calls)) y) (sym (messages-more w call calls))
-    (subst (λ (l : List Reply). IsBorne (from ++ read_on w mine) (written ++ written_on w mine) (requests_on w calls ++ requests_by w call) (messages_on w calls ++ messages_by w call) l y) (sym (replies-more call calls x k.1.0)) moved))))
+    let moved = moves-bear (goes_on w calls) call x y from written (requests_on w calls) (messages_on w calls) (sent_on w calls) (replies_on w calls) k.2 h k.0 k.1.1 k.3 in
+    subst (λ (l : List ℕ). IsBorne l (written_on w (answers_of (call ∷ calls))) (requests_on w (call ∷ calls)) (messages_on w (call ∷ calls)) (sent_on w (call ∷ calls)) (replies_on w (call ∷ calls)) y) (sym (read-more w calls call))
+    (subst (λ (l : List ℕ). IsBorne (from ++ read_on w mine) l (requests_on w (call ∷ calls)) (messages_on w (call ∷ calls)) (sent_on w (call ∷ calls)) (replies_on w (call ∷ calls)) y) (sym (written-more w calls call))
+    (subst (λ (l : List Request). IsBorne (from ++ read_on w mine) (written ++ written_on w mine) l (messages_on w (call ∷ calls)) (sent_on w (call ∷ calls)) (replies_on w (call ∷ calls)) y) (sym (requests-more w call calls))
+    (subst (λ (l : List (List ℕ)). IsBorne (from ++ read_on w mine) (written ++ written_on w mine) (requests_on w calls ++ requests_by w call) l (sent_on w (call ∷ calls)) (replies_on w (call ∷ calls)) y) (sym (messages-more w call calls))
+    (subst (λ (l : List Sent). IsBorne (from ++ read_on w mine) (written ++ written_on w mine) (requests_on w calls ++ requests_by w call) (messages_on w calls ++ messages_by w call) l (replies_on w (call ∷ calls)) y) (sym (sent-more call calls x k.1.0))
+    (subst (λ (l : List Reply). IsBorne (from ++ read_on w mine) (written ++ written_on w mine) (requests_on w calls ++ requests_by w call) (messages_on w calls ++ messages_by w call) (sent_by w (owes x) (goes_on w calls) call (sent_on w calls)) l y)
+    (sym (replies-more call calls x k.1.0)) moved)))))
 
 step-whole : (call : Call) (calls : List Call) (x y : Lane) → IsWhole calls x → Moves call x y → IsWhole (call ∷ calls) y
 step-whole call calls x y k h = (
   step-asked call calls x y k.0 h,
   step-said call calls x y k.1 h,
+  step-lasting call calls x y k.1.0 k.2 h,
   subst (λ n. BorneAt n (call ∷ calls) y) (sym (moves-wire call x y h)) (borne-here call calls x y k h),
 )
 
 new-whole : (calls : List Call) (now wire : ℕ) → IsUntouched wire calls → IsWhole calls (new_lane now wire)
-new-whole calls now wire h = (new-asked calls now wire h, new-said calls now wire h, h.messages)
+new-whole calls now wire h = (new-asked calls now wire h, new-said calls now wire h, new-lasting calls now wire, h.messages)
 
-carries-of : (calls : List Call) (lane : Lane) (protocol : Protocol) → Borne (is_live lane.stage) (read_on lane.wire (answers_of calls)) (written_on lane.wire (answers_of calls) ++ waits lane) (requests_on lane.wire calls) (messages_on lane.wire calls) (replies_on lane.wire calls) protocol → CarriesSocket calls lane protocol
+carries-of : (calls : List Call) (lane : Lane) (protocol : Protocol) → Borne (is_live lane.stage) (read_on lane.wire (answers_of calls)) (written_on lane.wire (answers_of calls) ++ waits lane) (requests_on lane.wire calls) (messages_on lane.wire calls) (sent_on lane.wire calls) (replies_on lane.wire calls) protocol → CarriesSocket calls lane protocol
 carries-of calls lane (Http http_state) b = tt
+carries-of calls lane (Response response_state) b = b
 carries-of calls lane (Socket websocket_state) b = b
 
 pub sockets-are-carried : SocketsAreCarried
 sockets-are-carried calls bound now h lane has =
-    carries-of calls lane lane.protocol (each-lane IsWhole new-whole step-whole calls bound now h lane (has-of now.lanes lane has)).2
+    carries-of calls lane lane.protocol (each-lane IsWhole new-whole step-whole calls bound now h lane (has-of now.lanes lane has)).3

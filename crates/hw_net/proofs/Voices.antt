@@ -10,7 +10,7 @@ use Rattle.hw_net.specs.declared.limits.TheConstants.{SWITCHING}
 use Rattle.hw_net.specs.declared.input.Input.{Input}
 use Rattle.hw_net.specs.declared.input.Input.TheVariants as input
 use Rattle.hw_net.specs.declared.protocol.Protocol.{Protocol}
-use Rattle.hw_net.specs.declared.protocol.Protocol.TheVariants.{Http, Socket}
+use Rattle.hw_net.specs.declared.protocol.Protocol.TheVariants.{Http, Response, Socket}
 use Rattle.hw_net.specs.declared.protocol.Stage.{Stage}
 use Rattle.hw_net.specs.declared.protocol.Stage.TheVariants.{Live, Lost, Closing, Over}
 use Rattle.hw_net.specs.Door.{new_lane}
@@ -37,6 +37,7 @@ use Rattle.hw_net.proofs.Walks.{IsHeard, Heeds, Moves, moves-wire, IsUntouched, 
 abbrev pub Voiced : List ℕ → List Reply → Protocol → Type 0
 Voiced all replies (Http http_state) =
     (texts : List ℕ) × (continued : Bool) × AreTextsOf replies texts × (continued ≡ true → http_state.continued ≡ true) × (all ≡ texts ++ continue_of continued)
+Voiced all replies (Response response_state) = ⊥
 Voiced all replies (Socket websocket_state) =
     (first : List Reply) × (upgrade : Reply) × (texts : List ℕ) × (frames : List ℕ)
     × (replies ≡ first ++ upgrade ∷ []) × (upgrade.status ≡ SWITCHING) × AreTextsOf replies texts × (all ≡ texts ++ frames)
@@ -61,6 +62,7 @@ writes-front wire waits _ left whole h = absurd h
 
 speaks-voiced : (before after : Protocol) (all : List ℕ) (replies : List Reply) → SpeaksAs before after → Voiced all replies before → Voiced all replies after
 speaks-voiced (Http before) (Http after) all replies e h = subst (λ (a : HttpStateView). Voiced all replies (Http a)) (sym e) h
+speaks-voiced (Response before) (Response after) all replies e h = absurd h
 speaks-voiced (Socket before) (Socket after) all replies e h = h
 speaks-voiced _ _ all replies e h = absurd e
 
@@ -221,6 +223,7 @@ gives-unwritten at wire room (answer ∷ next ∷ more) got h = absurd h
 
 pub hears-unwritten : (at wire : ℕ) (before after : Protocol) (answers : List Answer) (what : Input) → Hears wire before after answers what → written_on at answers ≡ []
 hears-unwritten at wire (Http before) (Http after) answers what h = gives-unwritten at wire _ answers h.got h.read
+hears-unwritten at wire (Response before) (Response after) answers what h = gives-unwritten at wire _ answers h.got h.read
 hears-unwritten at wire (Socket before) (Socket after) answers what h = gives-unwritten at wire _ answers h.got h.read
 hears-unwritten at wire _ _ answers what h = absurd h
 
@@ -231,6 +234,8 @@ settles-unwritten at now before after answers input.Nothing heard h = go (is_ove
   go false h = ap (λ l. written_on at l) h.0
 settles-unwritten at now before after answers (input.Request request) heard h = ap (λ l. written_on at l) h.0
 settles-unwritten at now before after answers (input.Refused refusal) heard h = ap (λ l. written_on at l) h.0
+settles-unwritten at now before after answers (input.Response status body) heard h = ap (λ l. written_on at l) h.0
+settles-unwritten at now before after answers input.Upgraded heard h = ap (λ l. written_on at l) h.0
 settles-unwritten at now before after answers (input.Message bytes) heard h = ap (λ l. written_on at l) h.0
 settles-unwritten at now before after answers input.Broken heard h = ap (λ l. written_on at l) h.0
 settles-unwritten at now before after answers input.Gone heard h = ap (λ l. written_on at l) h.0
@@ -274,12 +279,16 @@ settles-voiced now x protocol after read answers what heard written replies h s 
       (record (after_hearing (Http new) x) { since = now; out = out_after_continue (Http new) x.out ++ reply_text (refusal_of refusal); stage = Closing }) s.2
       (http-replied written (out_after_continue (Http new) x.out) replies (refusal_of refusal) (noted new) (noted new) (continued old new h.continued v))
   go (Http old) (Http new) (input.Message bytes) h s v = absurd h.is_input
+  go (Http old) (Http new) (input.Response status body) h s v = absurd h.is_input
+  go (Http old) (Http new) input.Upgraded h s v = absurd h.is_input
   go (Http old) (Http new) input.Broken h s v = none after (becomes written replies after (record (after_hearing (Http new) x) { stage = Over }) s.2 (continued old new h.continued v))
   go (Http old) (Http new) input.Gone h s v = absurd h.is_input
   go (Socket old) (Socket new) input.Nothing h s v =
       none after (nothing (Socket new) (grown old new (gets-grow old.lane new.lane h.got _ h.is_input.0) v) (is_overdue now (after_hearing (Socket new) x)) s)
   go (Socket old) (Socket new) (input.Request request) h s v = absurd h.is_input
   go (Socket old) (Socket new) (input.Refused refusal) h s v = absurd h.is_input
+  go (Socket old) (Socket new) (input.Response status body) h s v = absurd h.is_input
+  go (Socket old) (Socket new) input.Upgraded h s v = absurd h.is_input
   go (Socket old) (Socket new) (input.Message bytes) h s v =
       none after (becomes written replies after (record x { protocol = Socket new }) s.2 (grown old new (gets-grow old.lane new.lane h.got _ h.is_input.0) v))
   go (Socket old) (Socket new) input.Broken h s v =
@@ -291,6 +300,9 @@ settles-voiced now x protocol after read answers what heard written replies h s 
       (grows-on old.lane.out.bytes new.lane.out.bytes (frames_of (protocol_after_shut (Socket new))) (gets-grow old.lane new.lane h.got _ h.is_input.0) (shut-grows new.lane)) v))
   go (Http old) (Socket new) what h s v = absurd h
   go (Socket old) (Http new) what h s v = absurd h
+  go (Response old) new what h s v = absurd v
+  go (Http old) (Response new) what h s v = absurd h
+  go (Socket old) (Response new) what h s v = absurd h
 
 loses-voiced : (trace : Option Event) (before after : Lane) (heard : Option Event) (written : List ℕ) (replies : List Reply) → Loses trace before after heard → IsVoiced written replies before → IsVoiced written replies after
 loses-voiced (Some here) before after heard written replies h v = becomes written replies after before h.1 v
@@ -314,6 +326,8 @@ settles-refusals now before after answers input.Nothing heard h = go (is_overdue
 settles-refusals now before after answers (input.Request request) heard h = ap (λ o. refusals_in before.wire o) h.1
 settles-refusals now before after answers (input.Refused refusal) heard h =
     ap (λ o. refusals_in before.wire o) h.1 ∙ ap (λ b. if b then refusal_of refusal ∷ [] else []) (same before.wire)
+settles-refusals now before after answers (input.Response status body) heard h = ap (λ o. refusals_in before.wire o) h.1
+settles-refusals now before after answers input.Upgraded heard h = ap (λ o. refusals_in before.wire o) h.1
 settles-refusals now before after answers (input.Message bytes) heard h = ap (λ o. refusals_in before.wire o) h.1
 settles-refusals now before after answers input.Broken heard h = ap (λ o. refusals_in before.wire o) h.1
 settles-refusals now before after answers input.Gone heard h = ap (λ o. refusals_in before.wire o) h.1
@@ -403,6 +417,7 @@ reply-voiced now reply x written replies owed v = go x.protocol refl owed v wher
 
   go : (protocol : Protocol) → x.protocol ≡ protocol → (is_live x.stage && Rattle.hw_net.specs.Lane.is_busy protocol) ≡ true → Voiced (written ++ (x.out ++ frames_of protocol)) replies protocol → IsVoiced written (replies ++ reply ∷ []) (after_reply now reply x)
   go (Http http_state) e owed v = http http_state e v (reply.status == SWITCHING) refl
+  go (Response response_state) e owed v = absurd v
   go (Socket websocket_state) e owed v = absurd (cc (sym (dead x.stage) ∙ owed))
 
 replies-say : (now : ℕ) (reply : Reply) (x y : Lane) (mine : List Answer) → Replies now reply x y mine → SaysIn x y mine (if owes x then reply ∷ [] else [])
@@ -419,6 +434,7 @@ put-voiced true (Socket websocket_state) bytes text x mid is_put e h written rep
     becomes written replies mid _ h.2 (frames-grow written x.out websocket_state.lane.out.bytes h.0.out.bytes replies websocket_state websocket_state (says-grows websocket_state.lane h.0 bytes text is_put h.1)
     (subst (λ (t : Protocol). Voiced (written ++ (x.out ++ frames_of t)) replies t) e v))
 put-voiced true (Http http_state) bytes text x mid is_put e h written replies v = becomes written replies mid x h.1 v
+put-voiced true (Response response_state) bytes text x mid is_put e h written replies v = becomes written replies mid x h.1 v
 put-voiced false protocol bytes text x mid is_put e h written replies v = becomes written replies mid x h.1 v
 
 sends-pour : (now : ℕ) (bytes : List ℕ) (text : Bool) (x y : Lane) (mine : List Answer) → Sends now bytes text x y mine → Pours x y mine
@@ -433,6 +449,7 @@ sends-pour now bytes text x y mine h written replies v = go h.0 h.1 h.2 h.3 wher
 
 shut-voiced : (protocol : Protocol) (written out : List ℕ) (replies : List Reply) → Voiced (written ++ (out ++ frames_of protocol)) replies protocol → Voiced (written ++ (out ++ frames_of (protocol_after_shut protocol))) replies (protocol_after_shut protocol)
 shut-voiced (Http http_state) written out replies v = v
+shut-voiced (Response response_state) written out replies v = v
 shut-voiced (Socket websocket_state) written out replies v = frames-grow written out websocket_state.lane.out.bytes (frames_of (protocol_after_shut (Socket websocket_state))) replies websocket_state websocket_state (shut-grows websocket_state.lane) v
 
 shuts-pour : (now : ℕ) (x y : Lane) (mine : List Answer) → Shuts now x y mine → Pours x y mine
@@ -489,6 +506,7 @@ new-said calls now wire h = (
 
 wrote-of : (calls : List Call) (lane : Lane) (protocol : Protocol) → Voiced (written_on lane.wire (answers_of calls) ++ waits lane) (replies_on lane.wire calls) protocol → WroteReplies calls lane protocol
 wrote-of calls lane (Http http_state) h = h
+wrote-of calls lane (Response response_state) h = h
 wrote-of calls lane (Socket websocket_state) h = h
 
 pub replies-are-written : RepliesAreWritten

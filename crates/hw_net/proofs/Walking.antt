@@ -9,7 +9,7 @@ use Rattle.hw_net.specs.declared.first_read.FirstRead.{FirstRead}
 use Rattle.hw_net.specs.declared.first_read.FirstRead.TheVariants.{NothingRead}
 use Rattle.hw_net.specs.declared.limits.TheConstants.{MOST_UNWRITTEN}
 use Rattle.hw_net.specs.declared.protocol.Protocol.{Protocol}
-use Rattle.hw_net.specs.declared.protocol.Protocol.TheVariants.{Http, Socket}
+use Rattle.hw_net.specs.declared.protocol.Protocol.TheVariants.{Http, Response, Socket}
 use Rattle.hw_net.specs.declared.protocol.Stage.{Stage}
 use Rattle.hw_net.specs.declared.protocol.Stage.TheVariants.{Live, Lost, Closing, Over}
 use Rattle.hw_net.specs.Door.{HearsAll, index_of_first}
@@ -249,6 +249,7 @@ nothing-waits n e = grind (arith, e)
 -- what a lane speaks stays if nothing is written
 spoken : (protocol : Protocol) → SpeaksAs protocol protocol
 spoken (Http http_state) = refl
+spoken (Response response_state) = refl
 spoken (Socket websocket_state) = refl
 
 -- nothing was written, so nothing counts as written

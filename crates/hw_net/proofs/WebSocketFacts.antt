@@ -33,6 +33,8 @@ pub input-of : (wire : ℕ) (before mid after : WebSocketState) (answers : List 
 input-of wire before mid after answers input.Nothing r f = ((sym r.whole, (mid.lane, r.fed, f.0)), r.asked, f.1)
 input-of wire before mid after answers (input.Request request) r f = absurd f
 input-of wire before mid after answers (input.Refused refusal) r f = absurd f
+input-of wire before mid after answers (input.Response status body) r f = absurd f
+input-of wire before mid after answers input.Upgraded r f = absurd f
 input-of wire before mid after answers (input.Message bytes) r f = ((sym r.whole, (mid.lane, r.fed, f.0)), f.1)
 input-of wire before mid after answers input.Broken r f = absurd f
 input-of wire before mid after answers input.Gone r f = ((sym r.whole, (mid.lane, r.fed, f.0)), f.1)

@@ -9,7 +9,7 @@ use Rattle.hh_http.specs.Lane.{at_start}
 use Rattle.hw_net.specs.declared.limits.TheConstants.{MOST_NAMED}
 use Rattle.hw_net.specs.declared.protocol.Protocol.TheVariants.{Http}
 use Rattle.hw_net.specs.declared.protocol.Stage.TheVariants.{Live}
-use Rattle.hw_net.specs.declared.door.NetDoor.{NetDoor}
+use Rattle.hw_net.specs.Parts.{ReactorParts}
 use Rattle.hw_net.specs.Lane.{Lane, is_over, is_awake, is_full, wires_of}
 use Rattle.hw_net.specs.Saying.{Says}
 use Rattle.hw_net.specs.Turn.{Listens, TurnAll, AtLane}
@@ -22,8 +22,8 @@ pub record DoorState : Type 0 where
   pub named : ℕ
   pub moment : ℕ
 
-abbrev pub state_of : {W : Type 0} → NetDoor W → DoorState
-state_of door = record { lanes = door.lanes.items; from = door.from; named = door.named; moment = door.moment }
+abbrev pub state_of : {W : Type 0} → ReactorParts W → DoorState
+state_of parts = record { lanes = parts.lanes.items; from = parts.from; named = parts.named; moment = parts.moment }
 
 -- the lane of a wire that was accepted at this moment
 abbrev pub new_lane : ℕ → ℕ → Lane

@@ -5,7 +5,7 @@ use Rattle.hw_net.specs.declared.first_read.FirstRead.{FirstRead}
 use Rattle.hw_net.specs.declared.first_read.FirstRead.TheVariants.{Unread, NothingRead, Read}
 use Rattle.hw_net.specs.declared.limits.TheConstants.{PIECE}
 use Rattle.hw_net.specs.declared.protocol.Protocol.{Protocol}
-use Rattle.hw_net.specs.declared.protocol.Protocol.TheVariants.{Http, Socket}
+use Rattle.hw_net.specs.declared.protocol.Protocol.TheVariants.{Http, Response, Socket}
 use Rattle.hw_net.specs.declared.protocol.Stage.TheVariants.{Live}
 use Rattle.hw_net.specs.Lane.{Lane}
 use Rattle.hw_net.specs.WebSocketState.{IsCalm}
@@ -13,6 +13,7 @@ use Rattle.hw_net.specs.Trace.{Reads}
 
 abbrev pub IsCalmProtocol : Protocol → Type 0
 IsCalmProtocol (Http http_state) = ⊥
+IsCalmProtocol (Response response_state) = ⊥
 IsCalmProtocol (Socket websocket_state) = IsCalm websocket_state
 
 -- nothing is to be heard on the lane before more bytes come, and nothing to be written

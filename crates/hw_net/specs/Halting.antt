@@ -10,10 +10,11 @@ use Rattle.hw_socket.specs.declared.vocabulary.SocketRead.TheVariants as read
 use Rattle.hw_net.specs.declared.input.Input.{Input}
 use Rattle.hw_net.specs.declared.input.Input.TheVariants as input
 use Rattle.hw_net.specs.declared.protocol.Protocol.{Protocol}
-use Rattle.hw_net.specs.declared.protocol.Protocol.TheVariants.{Http, Socket}
+use Rattle.hw_net.specs.declared.protocol.Protocol.TheVariants.{Http, Response, Socket}
 use Rattle.hw_net.specs.declared.protocol.Stage.TheVariants.{Live}
 use Rattle.hw_net.specs.Door.{DoorState, Begins, kept, time_to_wait, with_accepted, index_of_first}
 use Rattle.hw_net.specs.HttpState.{HttpStateView, room_of as http_room}
+use Rattle.hw_net.specs.ResponseState.{ResponseStateView, IsInput, room_of as response_room}
 use Rattle.hw_net.specs.Lane.{Lane, says_continue, after_hearing}
 use Rattle.hw_net.specs.Lanes.{DoesHere}
 use Rattle.hw_net.specs.Trace.{Gives, bytes_of}
@@ -28,6 +29,14 @@ HaltsHttp wire before after answers =
     × ((bytes : List ℕ) (requests : List Request) → Asks bytes requests before.lane.held → Asks (bytes ++ bytes_of got) (requests ++ found) after.lane.held)
     × ((found ≡ []) ⊎ (says_continue after ≡ true))
 
+-- A lane that awaits its response: its wire was read at most once. What that gave is held, and no response was found in it; or the upgrade was, for
+-- which memory was out, and which its next turn hears again.
+abbrev pub HaltsResponse : ℕ → ResponseStateView → ResponseStateView → List Answer → Type 0
+HaltsResponse wire before after answers =
+    (got : Option (List ℕ)) × Gives wire (response_room before) answers got × (after.upgrade ≡ before.upgrade)
+    × (((after.lane.held ≡ before.lane.held ++ bytes_of got) × (after.concluded ≡ before.concluded) × (after.accepted ≡ before.accepted))
+    ⊎ ((after.accepted ≡ true) × IsInput before after answers got input.Upgraded))
+
 -- A WebSocket: its wire was read at most once. It couldn't be fed with what that gave, which is marked, or it was, and its read was out of
 -- memory, after which it is gone, or answered that it is gone. So its next turn hears that it is lost.
 abbrev pub HaltsSocket : ℕ → WebSocketState → WebSocketState → List Answer → Type 0
@@ -38,6 +47,7 @@ HaltsSocket wire before after answers =
 
 abbrev pub HaltsIn : ℕ → Protocol → Protocol → List Answer → Type 0
 HaltsIn wire (Http before) (Http after) answers = HaltsHttp wire before after answers
+HaltsIn wire (Response before) (Response after) answers = HaltsResponse wire before after answers
 HaltsIn wire (Socket before) (Socket after) answers = HaltsSocket wire before after answers
 HaltsIn wire _ _ answers = ⊥
 
@@ -50,11 +60,13 @@ Halts before after answers =
 -- a 100 is to be said
 abbrev pub IsDue : Protocol → Type 0
 IsDue (Http http_state) = says_continue http_state ≡ true
+IsDue (Response response_state) = ⊥
 IsDue (Socket websocket_state) = ⊥
 
 -- an input that the same lane gives again
 abbrev pub IsLasting : Input → Type 0
 IsLasting (input.Refused refusal) = ⊤
+IsLasting input.Upgraded = ⊤
 IsLasting input.Gone = ⊤
 IsLasting _ = ⊥
 

@@ -93,6 +93,8 @@ Finds before after (input.Request request) =
 Finds before after (input.Refused refusal) =
     (after.lane.held ≡ before.lane.held) × (before.busy ≡ false) × (after.busy ≡ false) × Refuses request_grammar before.lane.held refusal
     × (after.continued ≡ before.continued)
+Finds before after (input.Response status body) = ⊥
+Finds before after input.Upgraded = ⊥
 Finds before after (input.Message bytes) = ⊥
 Finds before after input.Broken = ⊥
 Finds before after input.Gone = ⊥
@@ -108,6 +110,8 @@ IsInput before after answers got input.Nothing =
 IsInput before after answers got (input.Request request) = (is_some got ≡ true) × (before.busy ≡ false) × (after.busy ≡ true)
 IsInput before after answers got (input.Refused refusal) =
     (is_some got ≡ true) × (before.busy ≡ false) × (after.busy ≡ false) × Refuses request_grammar after.lane.held refusal
+IsInput before after answers got (input.Response status body) = ⊥
+IsInput before after answers got input.Upgraded = ⊥
 IsInput before after answers got (input.Message bytes) = ⊥
 IsInput before after answers got input.Broken = (got ≡ None) × (after.busy ≡ before.busy)
 IsInput before after answers got input.Gone = ⊥

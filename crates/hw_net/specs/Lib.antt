@@ -2,6 +2,7 @@ pub mod Limits
 pub mod Trace
 pub mod Input
 pub mod HttpState
+pub mod ResponseState
 pub mod WebSocketState
 pub mod Lane
 pub mod FirstReads
@@ -21,5 +22,11 @@ pub mod Bounds
 pub mod Numbers
 pub mod Sessions
 pub mod Chains
+pub mod LaneNumbers
+pub mod Numbered
+pub mod Asking
+pub mod Dialer
+pub mod DialerCalls
+pub mod DialerNumbers
 pub mod Awaited
 pub mod Reaching

@@ -2,9 +2,10 @@
 use Rattle.std.specs.Prelude.{◌≡◌, ◌<◌, ℕ, false, List}
 use Rattle.std.specs.List.{All}
 use Rattle.hw_net.specs.declared.protocol.Protocol.{Protocol}
-use Rattle.hw_net.specs.declared.protocol.Protocol.TheVariants.{Http, Socket}
+use Rattle.hw_net.specs.declared.protocol.Protocol.TheVariants.{Http, Response, Socket}
 use Rattle.hw_net.specs.declared.tally.Tally.{Tally}
 use Rattle.hw_net.specs.HttpState.{IsHttpState}
+use Rattle.hw_net.specs.ResponseState.{IsResponseState}
 use Rattle.hw_net.specs.Lane.{Lane, is_overdue}
 use Rattle.hw_net.specs.Tally.{tally_of}
 use Rattle.hw_net.specs.WebSocketState.{IsWebSocketState}
@@ -14,6 +15,8 @@ use Rattle.hw_net.specs.declared.writers.Writers.{Writers}
 -- what holds of all that lanes speak
 abbrev pub IsSound : Protocol → Type 0
 IsSound (Http http_state) = IsHttpState http_state.lane http_state.busy http_state.has_unparsed
+IsSound (Response response_state) =
+    IsResponseState response_state.lane response_state.upgrade response_state.concluded response_state.accepted response_state.has_unparsed
 IsSound (Socket websocket_state) =
     IsWebSocketState websocket_state.lane websocket_state.wants_read websocket_state.last_read_was_full websocket_state.lost_bytes
 

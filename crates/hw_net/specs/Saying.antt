@@ -3,7 +3,7 @@ use Rattle.std.specs.Prelude.{◌≡◌, ◌≢◌, ◌==◌, ◌||◌, ◌-◌,
 use Rattle.hw_door.specs.Traffic.{Answer, bytes_out, write_failed, was_shut}
 use Rattle.hw_net.specs.declared.limits.TheConstants.{MOST_CLOSING, MOST_GATHERED_BYTES, MOST_UNWRITTEN}
 use Rattle.hw_net.specs.declared.protocol.Protocol.{Protocol}
-use Rattle.hw_net.specs.declared.protocol.Protocol.TheVariants.{Http, Socket}
+use Rattle.hw_net.specs.declared.protocol.Protocol.TheVariants.{Http, Response, Socket}
 use Rattle.hw_net.specs.declared.protocol.Stage.{Stage}
 use Rattle.hw_net.specs.declared.protocol.Stage.TheVariants.{Live, Lost, Closing, Over}
 use Rattle.hw_net.specs.Trace.{Chooses}
@@ -22,6 +22,7 @@ Writes wire waits _ left is_whole = ⊥
 -- the same but for the frames that are to be written
 abbrev pub SpeaksAs : Protocol → Protocol → Type 0
 SpeaksAs (Http before) (Http after) = after ≡ before
+SpeaksAs (Response before) (Response after) = after ≡ before
 SpeaksAs (Socket before) (Socket after) =
     after ≡ record before { lane = record before.lane { out = record before.lane.out { bytes = after.lane.out.bytes } } }
 SpeaksAs _ _ = ⊥

@@ -1,5 +1,5 @@
 -- Sessions of a door: its calls since it started, and what they hear, say and shut, put together.
-use Rattle.std.specs.Prelude.{◌≡◌, ◌⊎◌, ◌==◌, ◌&&◌, ◌||◌, ℕ, Bool, true, false, not, if◌then◌else◌, List, [], ◌∷◌, ◌++◌, length, Contains, Some, ⊤}
+use Rattle.std.specs.Prelude.{◌≡◌, ◌⊎◌, ◌==◌, ◌&&◌, ◌||◌, ℕ, Bool, true, false, not, if◌then◌else◌, List, [], ◌∷◌, ◌++◌, length, Contains, None, Some, ⊤}
 use Rattle.hw_lanes.specs.declared.http.Refusal.{Refusal}
 use Rattle.hw_lanes.specs.declared.http.Reply.{Reply}
 use Rattle.hw_lanes.specs.declared.http.Request.{Request}
@@ -13,13 +13,16 @@ use Rattle.hw_door.specs.Traffic.{Answer, accepted, bytes_in, not_yet, ended, re
 use Rattle.hw_socket.specs.Calls as socket_calls
 use Rattle.hw_socket.specs.Lane as socket
 use Rattle.hw_socket.specs.Reading.{Feeds, Takes}
+use Rattle.hw_socket.specs.Sending.{Sent}
+use Rattle.hw_socket.specs.declared.vocabulary.Ending.TheVariants.{BadText}
 use Rattle.hw_socket.specs.declared.vocabulary.SocketRead.TheVariants as read
 use Rattle.hw_socket.specs.declared.vocabulary.SocketSide.TheVariants as side
 use Rattle.hw_net.specs.declared.limits.TheConstants.{SWITCHING}
 use Rattle.hw_net.specs.declared.protocol.Stage.TheVariants.{Lost, Over}
 use Rattle.hw_net.specs.declared.protocol.Protocol.{Protocol}
-use Rattle.hw_net.specs.declared.protocol.Protocol.TheVariants.{Http, Socket}
+use Rattle.hw_net.specs.declared.protocol.Protocol.TheVariants.{Http, Response, Socket}
 use Rattle.hw_net.specs.Bounds.{has_wire}
+use Rattle.hw_net.specs.ResponseState.{Fails}
 use Rattle.hw_net.specs.Door.{DoorState, HearsNext, KeepsLanes, DoesAt, is_full_at}
 use Rattle.hw_net.specs.Flushing.{FlushesDoor, HearsGathered}
 use Rattle.hw_net.specs.Lane.{Lane, waits, is_full, is_live, refusal_of, is_overdue, is_stalled}
@@ -140,9 +143,10 @@ requests_on lane (heard what answers ∷ calls) = requests_on lane calls ++ requ
 requests_on lane (_ ∷ calls) = requests_on lane calls
 
 -- The requests heard on a lane are those of all bytes read on its wire, and what is held is what these leave. On a lane that became a
--- WebSocket they are those of a first part of the bytes.
+-- WebSocket they are those of a first part of the bytes. No lane of a door awaits a response.
 abbrev pub HeardRequests : List Call → ℕ → Protocol → Type 0
 HeardRequests calls wire (Http http_state) = Asks (read_on wire (answers_of calls)) (requests_on wire calls) http_state.lane.held
+HeardRequests calls wire (Response response_state) = ⊥
 HeardRequests calls wire (Socket websocket_state) =
     (bytes : List ℕ) × (rest : List ℕ) × (more : List ℕ)
     × (read_on wire (answers_of calls) ≡ bytes ++ more) × Asks bytes (requests_on wire calls) rest
@@ -206,6 +210,7 @@ abbrev pub WroteReplies : List Call → Lane → Protocol → Type 0
 WroteReplies calls lane (Http http_state) =
     (texts : List ℕ) × (continued : Bool) × AreTextsOf (replies_on lane.wire calls) texts × (continued ≡ true → http_state.continued ≡ true)
     × (written_on lane.wire (answers_of calls) ++ waits lane ≡ texts ++ continue_of continued)
+WroteReplies calls lane (Response response_state) = ⊥
 WroteReplies calls lane (Socket websocket_state) =
     (replies : List Reply) × (upgrade : Reply) × (texts : List ℕ) × (frames : List ℕ)
     × (replies_on lane.wire calls ≡ replies ++ upgrade ∷ []) × (upgrade.status ≡ SWITCHING) × AreTextsOf (replies_on lane.wire calls) texts
@@ -260,14 +265,17 @@ LanesHaveWires =
     (calls : List Call) (bound : ℕ) (now : DoorState) → Session calls bound now
     → (lane : Lane) → Contains now.lanes lane → was_shut_in lane.wire (answers_of calls) ≡ not (has_wire lane.stage)
 
--- its WebSocket is gone once it is fed with these bytes: its other side closes it or breaks its rules, or a text to send was none
+-- Its WebSocket is gone once it is fed with these bytes: its other side closes it or breaks its rules, or a text to send was none. On a lane that
+-- awaits its response, which a door has none of, what is held with these bytes is none, or isn't the upgrade that was asked for.
 abbrev pub IsGone : List ℕ → Protocol → Type 0
 IsGone bytes (Http http_state) = ⊥
+IsGone bytes (Response response_state) = (response_state.concluded ≡ false) × Fails response_state.upgrade (response_state.lane.held ++ bytes)
 IsGone bytes (Socket websocket_state) = (fed : socket.Lane) × (next : socket.Lane) × Feeds websocket_state.lane bytes fed × Takes fed next read.Gone
 
 -- bytes that were read for its WebSocket are lost, as memory was out
 abbrev pub IsSpoiled : Protocol → Type 0
 IsSpoiled (Http http_state) = ⊥
+IsSpoiled (Response response_state) = ⊥
 IsSpoiled (Socket websocket_state) = websocket_state.lost_bytes ≡ true
 
 -- why a lane is lost, by what the wires answered so far, and by how it is left: its wire broke, it waited for a request for too long, it
@@ -324,10 +332,29 @@ messages_on lane [] = []
 messages_on lane (heard what answers ∷ calls) = messages_on lane calls ++ message_on lane what.event
 messages_on lane (_ ∷ calls) = messages_on lane calls
 
+-- A lane goes on: a reply was said there, and since the last one neither its loss nor a refusal was heard, the caller didn't shut it, and its wire wasn't
+-- shut.
+abbrev pub goes_on : ℕ → List Call → Bool
+goes_on lane [] = false
+goes_on lane (heard what answers ∷ calls) = not (is_end_on lane what.event) && (not (was_shut_in lane answers) && goes_on lane calls)
+goes_on lane (replied at reply answers ∷ calls) = not (was_shut_in lane answers) && (((at == lane) && is_owed_on lane calls) || goes_on lane calls)
+goes_on lane (sent at bytes text full answers ∷ calls) = not (was_shut_in lane answers) && goes_on lane calls
+goes_on lane (shut at answers ∷ calls) = not (at == lane) && (not (was_shut_in lane answers) && goes_on lane calls)
+goes_on lane (wrote at answers ∷ calls) = not (was_shut_in lane answers) && goes_on lane calls
+
+-- the messages that were given on a lane since a reply was said there last, as long as it went on: on one that became a WebSocket, since its upgrade
+abbrev pub sent_on : ℕ → List Call → List Sent
+sent_on lane [] = []
+sent_on lane (replied at reply answers ∷ calls) = if (at == lane) && is_owed_on lane calls then [] else sent_on lane calls
+sent_on lane (sent at bytes text full answers ∷ calls) =
+    if (at == lane) && goes_on lane calls then sent_on lane calls ++ record { is_text = text; bytes = bytes } ∷ [] else sent_on lane calls
+sent_on lane (_ ∷ calls) = sent_on lane calls
+
 -- What a WebSocket did, as calls of a fresh one that keeps all that it has to write. It was fed with what the requests leave of the bytes
 -- read, but for some that are lost if it isn't heard any more. Its payloads are the messages heard. And the bytes written, or that wait, are the texts
--- of the replies, and then what it wrote.
-pub record IsCarried (live : Bool) (came wrote : List ℕ) (requests : List Request) (messages : List (List ℕ)) (replies : List Reply) (now : socket.Lane) : Type 0 where
+-- of the replies, and then what it wrote. It took the messages that were given while its lane went on, in order, but for those from a text on that was none;
+-- and that is why it is gone if it still is heard.
+pub record IsCarried (live : Bool) (came wrote : List ℕ) (requests : List Request) (messages : List (List ℕ)) (given : List Sent) (replies : List Reply) (now : socket.Lane) : Type 0 where
   pub calls : List socket_calls.Call
   pub keeps : socket.Lane
   pub runs : socket_calls.Session (socket.fresh_lane side.Server) calls keeps
@@ -345,12 +372,17 @@ pub record IsCarried (live : Bool) (came wrote : List ℕ) (requests : List Requ
   pub texts : List ℕ
   pub said : AreTextsOf replies texts
   pub wrote_all : wrote ≡ texts ++ keeps.out.bytes
+  pub unsent : List Sent
+  pub sent_all : given ≡ socket_calls.said calls ++ unsent
+  pub took_all : (unsent ≡ []) ⊎ (now.ending ≡ Some BadText)
+  pub sound : live ≡ true → (now.ending ≡ None) ⊎ (now.ending ≡ Some BadText)
 
 abbrev pub CarriesSocket : List Call → Lane → Protocol → Type 0
 CarriesSocket calls lane (Http http_state) = ⊤
+CarriesSocket calls lane (Response response_state) = ⊥
 CarriesSocket calls lane (Socket websocket_state) =
     IsCarried (is_live lane.stage) (read_on lane.wire (answers_of calls)) (written_on lane.wire (answers_of calls) ++ waits lane)
-    (requests_on lane.wire calls) (messages_on lane.wire calls) (replies_on lane.wire calls) websocket_state.lane
+    (requests_on lane.wire calls) (messages_on lane.wire calls) (sent_on lane.wire calls) (replies_on lane.wire calls) websocket_state.lane
 
 -- so it is of each lane that became a WebSocket
 abbrev pub SocketsAreCarried : Type 0

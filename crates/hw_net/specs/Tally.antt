@@ -2,7 +2,7 @@
 use Rattle.std.specs.Prelude.{◌+◌, ◌<◌, ◌≤◌, ◌^◌, ◌&&◌, ◌||◌, ℕ, Bool, true, false, not, nat_lt, List, [], ◌∷◌, length, is_some}
 use Rattle.std.specs.Int.{from_bool}
 use Rattle.hw_net.specs.declared.protocol.Protocol.{Protocol}
-use Rattle.hw_net.specs.declared.protocol.Protocol.TheVariants.{Http, Socket}
+use Rattle.hw_net.specs.declared.protocol.Protocol.TheVariants.{Http, Response, Socket}
 use Rattle.hw_net.specs.declared.protocol.Stage.{Stage}
 use Rattle.hw_net.specs.declared.protocol.Stage.TheVariants.{Live, Lost, Closing, Over}
 use Rattle.hw_net.specs.declared.tally.Tally.{Tally}
@@ -32,6 +32,7 @@ is_closing Over = false
 -- a live lane hears nothing but what comes: no 100 is due, or the WebSocket isn't gone and lost no bytes
 abbrev pub only_waits_by : Stage → Protocol → Bool
 only_waits_by Live (Http http_state) = not http_state.awaits_continue
+only_waits_by Live (Response response_state) = true
 only_waits_by Live (Socket websocket_state) = not websocket_state.lost_bytes && not (is_some websocket_state.lane.ending)
 only_waits_by Lost protocol = true
 only_waits_by Closing protocol = true

@@ -1,4 +1,4 @@
--- What a lane does in one call of a door.
+-- What a lane does in one call of a door or of a dialer.
 use Rattle.std.specs.Prelude.{◌≡◌, ◌==◌, ℕ, Bool, true, false, List, [], ◌∷◌, ◌++◌, Option, None, Some, ⊤}
 use Rattle.hw_lanes.specs.declared.http.Reply.{Reply}
 use Rattle.hh_http.specs.Asks.{request_grammar}
@@ -12,13 +12,14 @@ use Rattle.hw_socket.specs.Sending as sending
 use Rattle.hw_net.specs.declared.input.Input.{Input}
 use Rattle.hw_net.specs.declared.input.Input.TheVariants as input
 use Rattle.hw_net.specs.declared.protocol.Protocol.{Protocol}
-use Rattle.hw_net.specs.declared.protocol.Protocol.TheVariants.{Http, Socket}
+use Rattle.hw_net.specs.declared.protocol.Protocol.TheVariants.{Http, Response, Socket}
 use Rattle.hw_net.specs.declared.protocol.Stage.{Stage}
 use Rattle.hw_net.specs.declared.protocol.Stage.TheVariants.{Live, Lost, Closing, Over}
 use Rattle.hw_net.specs.Trace.{Chooses}
 use Rattle.hw_net.specs.HttpState.{HearsHttp}
+use Rattle.hw_net.specs.ResponseState.{HearsResponse}
 use Rattle.hw_net.specs.WebSocketState.{HearsWebSocket}
-use Rattle.hw_net.specs.Lane.{Lane, is_live, is_drained, is_stalled, owes, is_overdue, refusal_of, protocol_after_shut, after_hearing, after_message, after_reply, after_turn}
+use Rattle.hw_net.specs.Lane.{Lane, is_live, is_drained, is_stalled, owes, is_overdue, refusal_of, protocol_after_shut, protocol_after_upgrade, after_hearing, after_message, after_reply, after_turn}
 use Rattle.hw_net.specs.Saying.{WritesOut, Says, SaysIfEnded, SaysMore, GathersOrSays}
 
 -- ---- hearing
@@ -26,12 +27,14 @@ use Rattle.hw_net.specs.Saying.{WritesOut, Says, SaysIfEnded, SaysMore, GathersO
 -- what a lane hears of its wire in one turn
 abbrev pub Hears : ℕ → Protocol → Protocol → List Answer → Input → Type 0
 Hears wire (Http before) (Http after) answers heard = HearsHttp wire before after answers heard
+Hears wire (Response before) (Response after) answers heard = HearsResponse wire before after answers heard
 Hears wire (Socket before) (Socket after) answers heard = HearsWebSocket wire before after answers heard
 Hears wire _ _ answers heard = ⊥
 
 -- a refusal is one of what is held
 abbrev pub IsRightInput : Protocol → Input → Type 0
 IsRightInput (Http http_state) (input.Refused refusal) = Refuses request_grammar http_state.lane.held refusal
+IsRightInput (Response response_state) (input.Refused refusal) = ⊥
 IsRightInput (Socket websocket_state) (input.Refused refusal) = ⊥
 IsRightInput protocol _ = ⊤
 
@@ -44,14 +47,17 @@ Falls before after answers heard =
 abbrev pub Passes : Lane → Lane → List Answer → Option Event → Option Event → Type 0
 Passes becomes after answers trace heard = (answers ≡ []) × (heard ≡ trace) × (after ≡ becomes)
 
--- The event that is heard of the input. A lane that has waited for too long is lost, what is no request is answered, and a WebSocket that is
--- gone says so. The last two close from this moment on.
+-- The event that is heard of the input. A lane that has waited for too long is lost, what is no request is answered, a lane whose upgrade was accepted
+-- is a WebSocket, and a WebSocket that is gone says so. One that answers what is no request, or is gone, closes from this moment on.
 abbrev pub Settles : ℕ → Lane → Lane → List Answer → Input → Option Event → Type 0
 Settles now before after answers input.Nothing heard =
     Chooses (is_overdue now before) (Falls before after answers heard) (Passes before after answers None heard)
 Settles now before after answers (input.Request request) heard = Passes before after answers (Some (event.Request before.wire request)) heard
 Settles now before after answers (input.Refused refusal) heard =
     Passes (record before { since = now; out = before.out ++ reply_text (refusal_of refusal); stage = Closing }) after answers (Some (event.Refused before.wire refusal)) heard
+Settles now before after answers (input.Response status body) heard = Passes before after answers (Some (event.Response before.wire status body)) heard
+Settles now before after answers input.Upgraded heard =
+    Passes (record before { protocol = protocol_after_upgrade before.protocol }) after answers (Some (event.Upgraded before.wire)) heard
 Settles now before after answers (input.Message bytes) heard = Passes before after answers (Some (event.Bytes before.wire bytes)) heard
 Settles now before after answers input.Broken heard = Falls before after answers heard
 Settles now before after answers input.Gone heard =
@@ -130,6 +136,7 @@ abbrev pub PutsAt : Bool → Protocol → List ℕ → Bool → Lane → Lane �
 PutsAt true (Socket websocket_state) bytes text before after is_put =
     (lane : socket.Lane) × sending.Says websocket_state.lane lane bytes text is_put × (after ≡ record before { protocol = Socket (record websocket_state { lane = lane }) })
 PutsAt true (Http http_state) bytes text before after is_put = (is_put ≡ false) × (after ≡ before)
+PutsAt true (Response response_state) bytes text before after is_put = (is_put ≡ false) × (after ≡ before)
 PutsAt false protocol bytes text before after is_put = (is_put ≡ false) × (after ≡ before)
 
 abbrev pub Puts : List ℕ → Bool → Lane → Lane → Bool → Type 0

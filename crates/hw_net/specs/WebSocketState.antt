@@ -77,6 +77,8 @@ IsInput before after answers got input.Nothing =
     Gets before.lane got read.NotYet after.lane × IsAsked (room_of before) answers × (after.wants_read ≡ true)
 IsInput before after answers got (input.Request request) = ⊥
 IsInput before after answers got (input.Refused refusal) = ⊥
+IsInput before after answers got (input.Response status body) = ⊥
+IsInput before after answers got input.Upgraded = ⊥
 IsInput before after answers got (input.Message bytes) = Gets before.lane got (read.Payload bytes) after.lane × (after.wants_read ≡ false)
 IsInput before after answers got input.Broken = ((got ≡ None) ⊎ (before.lost_bytes ≡ true)) × (after.lane ≡ before.lane)
 IsInput before after answers got input.Gone = Gets before.lane got read.Gone after.lane × (after.wants_read ≡ false)

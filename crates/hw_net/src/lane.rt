@@ -1,4 +1,4 @@
-//! One lane of a door: what it hears in a turn, and what it says.
+//! One lane of a door or of a dialer: what it hears in a turn, and what it says.
 
 ghost use Rattle.std.specs.Prelude.{◌≡◌, ◌<◌, ◌≤◌, ◌-◌, ◌&&◌, ◌++◌, ◌∷◌, [], if◌then◌else◌, ℕ, List, Some, true, false, not, nat_le, length, IfOk, IfSome, OnOk, OnErr};
 ghost use Rattle.hw_lanes.specs.Replies.{IsReply};
@@ -7,7 +7,7 @@ ghost use Rattle.hw_door.specs.Traffic.{Answer, was_shut};
 ghost use Rattle.hw_net.specs.Door.{new_lane};
 ghost use Rattle.hw_net.specs.FirstReads.{ReadsFirst, IsCalmLane, IsWithin};
 ghost use Rattle.hw_net.specs.Halting.{Halts, HaltsIn, IsDue, IsLasting};
-ghost use Rattle.hw_net.specs.Lane.{waits, frames_of, is_over, is_awake, is_awake_by, is_drained, is_stalled, is_full, is_overdue, owes, refusal_of, full_after_write, after_end, after_hearing, after_message, after_reply, after_turn, protocol_after_shut, protocol_after_reply, new_socket, rest_of};
+ghost use Rattle.hw_net.specs.Lane.{waits, frames_of, is_over, is_awake, is_awake_by, is_drained, is_stalled, is_full, is_overdue, owes, refusal_of, full_after_write, after_end, after_hearing, after_message, after_reply, after_turn, protocol_after_shut, protocol_after_reply, protocol_after_upgrade, dialed_lane, new_socket, rest_of};
 ghost use Rattle.hw_net.specs.Saying.{Writes, WritesOut, WritesIfLive, DropsOrWrites, Says, SaysIfEnded, SaysMore, GathersOrSays, SpeaksAs, IsLaneStill, must_end, has_closed_long};
 ghost use Rattle.hw_net.specs.Resting.{IsKnown};
 ghost use Rattle.hw_net.specs.Tally.{has_unwritten, is_closing, is_restless, is_writer, only_waits_by};
@@ -24,10 +24,11 @@ use crate::limits::{
 use crate::protocol::{Protocol, Stage};
 use crate::reading::read_piece;
 use crate::refusing::refusal_reply;
+use crate::response_state::ResponseState;
 use crate::websocket_state::WebSocketState;
 use crate::writing::write_bytes;
 use hh_http::{write_continue, write_reply};
-use hw_door::{Event, Wires};
+use hw_door::{Event, Upgrade, Wires};
 use hw_lanes::{Refusal, Reply};
 use hw_socket::{SocketLane, SocketSide};
 use std::alloc::{AllocError, Global};
@@ -45,7 +46,8 @@ fn must_end(stage: Stage, unwritten: usize, is_whole: bool) -> bool
     }
 }
 
-/// The moment before which a lane isn't late that waits for a request since this one. One that owes a reply never is.
+/// The moment before which a lane isn't late that waits for a request, or for its response, since this one. One that is busy, as it owes a reply
+/// or had its response, never is.
 fn due_of(since: u64, is_busy: bool) -> u64
     ensures { (now : ℕ) → now < result → (not is_busy && nat_le MOST_WAIT (now - since)) ≡ false }
 {
@@ -72,10 +74,10 @@ fn put_continue(is_said: bool, out: &mut Vec<u8>) -> Result<(), AllocError>
 pub struct NetLane {
     alloc: Global,
     wire: u64,
-    // The moment since which it waits for a whole request, or closes.
+    // The moment since which it waits for a whole request or response, or closes.
     since: u64,
     protocol: Protocol,
-    // What was replied and isn't written. What a WebSocket has to write comes after it.
+    // What was replied or asked and isn't written. What a WebSocket has to write comes after it.
     out: Vec<u8>,
     stage: Stage,
     // How long it is full, if it is.
@@ -101,6 +103,27 @@ impl NetLane {
             since: now,
             protocol: Protocol::Http(HttpState::start(alloc)?),
             out: Vec::new(alloc),
+            stage: Stage::Live,
+            full: None,
+        })
+    }
+
+    /// The lane of a wire that was dialed at this moment, on which this is to be written: an ask, for this upgrade if one is given.
+    pub fn dialed(
+        alloc: Global,
+        wire: u64,
+        ask: Vec<u8>,
+        upgrade: Option<Upgrade>,
+        now: u64,
+    ) -> Result<NetLane, AllocError>
+        ensures { IfOk result (λ lane. lane ≡ dialed_lane now wire ask.items upgrade) }
+    {
+        Ok(NetLane {
+            alloc,
+            wire,
+            since: now,
+            protocol: Protocol::Response(ResponseState::start(alloc, upgrade)?),
+            out: ask,
             stage: Stage::Live,
             full: None,
         })
@@ -132,6 +155,7 @@ impl NetLane {
         match self.stage {
             Stage::Live => match &self.protocol {
                 Protocol::Http(http_state) => http_state.is_awake(),
+                Protocol::Response(response_state) => response_state.is_awake(),
                 Protocol::Socket(websocket_state) => websocket_state.is_awake(),
             },
             Stage::Lost => true,
@@ -201,6 +225,7 @@ impl NetLane {
         match self.stage {
             Stage::Live => match &self.protocol {
                 Protocol::Http(http_state) => http_state.only_waits(),
+                Protocol::Response(_) => true,
                 Protocol::Socket(websocket_state) => websocket_state.only_waits(),
             },
             Stage::Lost => true,
@@ -218,6 +243,10 @@ impl NetLane {
                 http_state.is_sound();
                 due_of(self.since, http_state.is_busy())
             }
+            Protocol::Response(response_state) => {
+                response_state.is_sound();
+                due_of(self.since, response_state.is_concluded())
+            }
             Protocol::Socket(websocket_state) => {
                 websocket_state.is_sound();
                 u64::MAX
@@ -231,6 +260,7 @@ impl NetLane {
     {
         match &self.protocol {
             Protocol::Http(_) => self.out.len(),
+            Protocol::Response(_) => self.out.len(),
             Protocol::Socket(websocket_state) => self
                 .out
                 .len()
@@ -244,6 +274,7 @@ impl NetLane {
     {
         match &self.protocol {
             Protocol::Http(_) => false,
+            Protocol::Response(_) => false,
             Protocol::Socket(websocket_state) => {
                 self.stage == Stage::Live
                     && self.out.is_empty()
@@ -396,6 +427,7 @@ impl NetLane {
                 http_state.note_continue();
                 Ok(())
             }
+            Protocol::Response(_) => Ok(()),
             Protocol::Socket(_) => Ok(()),
         }
     }
@@ -477,6 +509,7 @@ impl NetLane {
     {
         match &mut self.protocol {
             Protocol::Http(http_state) => http_state.hear(wires, self.wire, buf),
+            Protocol::Response(response_state) => response_state.hear(wires, self.wire, buf),
             Protocol::Socket(websocket_state) => websocket_state.hear(wires, self.wire, buf),
         }
     }
@@ -504,6 +537,11 @@ impl NetLane {
                 self.refuse(refusal, now)?;
                 Ok(Some(Event::Refused { lane, refusal }))
             }
+            Input::Response { status, body } => Ok(Some(Event::Response { lane, status, body })),
+            Input::Upgraded => {
+                self.open()?;
+                Ok(Some(Event::Upgraded { lane }))
+            }
             Input::Message(bytes) => Ok(Some(Event::Bytes { lane, bytes })),
             Input::Broken => Ok(Some(self.fall(wires))),
             Input::Gone => {
@@ -513,7 +551,7 @@ impl NetLane {
         }
     }
 
-    /// A lane that has waited for a request for too long is lost.
+    /// A lane that has waited for a request, or for its response, for too long is lost.
     fn expire<W: Wires>(&mut self, wires: &mut W, now: u64) -> Option<Event>
         requires { self.old.stage ≡ Stage.Live }
         ensures settled { (answers : List Answer) × Tells (W.trace wires.old) (W.trace wires.new) answers
@@ -533,6 +571,8 @@ impl NetLane {
         match &self.protocol {
             Protocol::Http(http_state) => !http_state.is_busy()
                 && now.saturating_sub(self.since) >= MOST_WAIT,
+            Protocol::Response(response_state) => !response_state.is_concluded()
+                && now.saturating_sub(self.since) >= MOST_WAIT,
             Protocol::Socket(_) => false,
         }
     }
@@ -550,6 +590,23 @@ impl NetLane {
     {
         write_reply(&refusal_reply(self.alloc, refusal), &mut self.out)?;
         self.close(now);
+        Ok(())
+    }
+
+    /// The response accepted the upgrade that was asked for: the lane is a WebSocket, whose bytes are those that came after it.
+    fn open(&mut self) -> Result<(), AllocError>
+        ensures ok { OnOk result (self.new ≡ record self.old { protocol = protocol_after_upgrade self.old.protocol }) }
+        ensures err { OnErr result (self.new ≡ self.old) }
+    {
+        let Protocol::Response(response_state) = &self.protocol else {
+            return Ok(());
+        };
+        let Some(seed) = response_state.seed() else {
+            return Ok(());
+        };
+        let mut lane = SocketLane::start(self.alloc, SocketSide::Client { seed });
+        lane.feed(response_state.rest())?;
+        self.protocol = Protocol::Socket(WebSocketState::of(lane));
         Ok(())
     }
 
@@ -712,6 +769,7 @@ impl NetLane {
     {
         match &mut self.protocol {
             Protocol::Http(_) => true,
+            Protocol::Response(_) => true,
             Protocol::Socket(websocket_state) => websocket_state.write(wires, self.wire),
         }
     }
@@ -758,6 +816,7 @@ impl NetLane {
     {
         match &self.protocol {
             Protocol::Http(http_state) => self.stage == Stage::Live && http_state.is_busy(),
+            Protocol::Response(_) => false,
             Protocol::Socket(_) => false,
         }
     }
@@ -819,8 +878,8 @@ impl NetLane {
         Ok(self.is_full())
     }
 
-    /// After a message more waits: nothing is written yet if that is little, so that it goes out with what is said later.
-    fn gather_or_say<W: Wires>(&mut self, wires: &mut W)
+    /// After a message or an ask more waits: nothing is written yet if that is little, so that it goes out with what is said later.
+    pub fn gather_or_say<W: Wires>(&mut self, wires: &mut W)
         ensures said { (answers : List Answer) × Tells (W.trace wires.old) (W.trace wires.new) answers × GathersOrSays self.old self.new answers }
         ensures wires { W.wires wires.new ≡ W.wires wires.old }
         ensures lane { self.new.wire ≡ self.old.wire }
@@ -848,6 +907,7 @@ impl NetLane {
         }
         match &mut self.protocol {
             Protocol::Http(_) => Ok(false),
+            Protocol::Response(_) => Ok(false),
             Protocol::Socket(websocket_state) => websocket_state.send(bytes, text),
         }
     }

@@ -113,6 +113,13 @@ impl Lanes {
         self.due = due;
     }
 
+    /// Whether some lane is over.
+    pub fn has_over(&self) -> bool
+        ensures { result ≡ false → kept self.now.items ≡ self.now.items }
+    {
+        self.tally.has_over()
+    }
+
     /// Forgets the lanes that are over.
     pub fn clear(&mut self)
         ensures { self.new.items ≡ kept self.old.items }
@@ -233,7 +240,7 @@ impl Lanes {
     }
 
     /// The live lane of this number writes what waits, if there is one.
-    fn write_at<W: Wires>(&mut self, wire: u64, wires: &mut W)
+    pub fn write_at<W: Wires>(&mut self, wire: u64, wires: &mut W)
         requires { Rise (wires_of self.old.items) }
         ensures written { (answers : List Answer) × Tells (W.trace wires.old) (W.trace wires.new) answers
             × AtLane wire WritesIfLive self.old.items self.new.items answers }

@@ -1,20 +1,22 @@
 //! What crates above cite of the definitions. No function here does anything: its contract is the law.
 
 ghost use Rattle.std.specs.Prelude.{◌≡◌};
-ghost use Rattle.hw_net.specs.Awaited.{RequestsAreFree};
+ghost use Rattle.hw_net.specs.Awaited.{RepliesAreSaid, RequestsAreFree};
 ghost use Rattle.hw_net.specs.Bounds.{FailsAreWithin, FlushesAreWithin, HaltsAreWithin, NextIsWithin, NextIsInTime, RepliesAreWithin, SendsAreWithin, ShutsAreWithin};
 ghost use Rattle.hw_net.specs.Chains.{CallsAreASession, CallsSplit};
+ghost use Rattle.hw_net.specs.DialerNumbers.{AsksRise};
 ghost use Rattle.hw_net.specs.Limits.{piece, most_unwritten, most_gathered, most_gathered_bytes, most_before_full, most_drained, most_stalled, most_wait, most_closing, most_named, switching};
 ghost use Rattle.hw_net.specs.Numbers.{FlushesKeepNumbers, NumbersRise, RepliesKeepNumbers, SendsKeepNumbers, ShutsKeepNumbers};
 ghost use Rattle.hw_net.specs.Reaching.{OthersListen, LanesAreReached};
 ghost use Rattle.hw_net.specs.Sessions.{FlushesAreCalls, NextIsCalls, RequestsAreAsked, RefusalsAreDeserved, RepliesAreWritten, RequestsWaitForReplies, WiresAreShutForACause, WiresAreShutOnce, LanesHaveWires, LossesHaveCauses, FullnessIsTold, DrainedWereFull, SocketsAreCarried};
 
+use crate::dialer::NetDialer;
 use crate::door::NetDoor;
 use crate::limits::{
     MOST_BEFORE_FULL, MOST_CLOSING, MOST_DRAINED, MOST_GATHERED, MOST_GATHERED_BYTES, MOST_NAMED,
     MOST_STALLED, MOST_UNWRITTEN, MOST_WAIT, PIECE, SWITCHING,
 };
-use hw_door::{Door, Wires};
+use hw_door::{Dialer, Door, Wires};
 
 /// The constants are the numbers of the definitions.
 pub fn limits_are_named()
@@ -56,6 +58,11 @@ pub fn numbers_rise()
     ensures shut { ShutsKeepNumbers }
 {}
 
+/// In any calls of a dialer the lanes of its asks rise, from the first after the lane that was answered last.
+pub fn asks_rise<W: Wires + Drop>()
+    ensures { AsksRise ⟦<NetDialer<W> as Dialer>⟧.Goes }
+{}
+
 /// A flush is calls of a session, each of which writes what waits on one lane. A call of `next` is such calls, or none, and then one that hears. So
 /// what holds in any session holds whatever is gathered.
 pub fn flushes_are_calls()
@@ -92,6 +99,11 @@ pub fn requests_wait_for_replies()
 /// To a caller that replies only where a reply is awaited, a request is heard only on a lane where none is and that was given no upgrade.
 pub fn requests_are_free()
     ensures { RequestsAreFree }
+{}
+
+/// Of a caller that replies only where a reply is awaited, all replies are said, in order, but for the last one on a lane that isn't live any more.
+pub fn replies_are_said()
+    ensures { RepliesAreSaid }
 {}
 
 /// A wire is shut only if its lane is heard no more but for its loss, and only once, and then nothing is read or written on it.

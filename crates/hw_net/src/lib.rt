@@ -1,5 +1,5 @@
-//! The door of a server over any wires: bytes that are read become requests and messages, and replies and messages become bytes that are
-//! written. [`NetDoor`] is a [`hw_door::Door`] over any [`hw_door::Wires`]; each connection is a lane, with the number of its wire.
+//! The door of a server and the dialer of a client over any wires: bytes that are read become requests, responses and messages, and replies, asks and
+//! messages become bytes that are written. [`NetDoor`] is a [`hw_door::Door`] over any [`hw_door::Wires`]; each connection is a lane, with the number of its wire.
 //!
 //! ```text
 //! accepted
@@ -85,9 +85,31 @@
 //! none of `next` failed ([`calls_are_a_session`]). In any calls each lane listens sooner or later, or rests,
 //! whatever the wires name ([`lanes_are_reached`]).
 //!
+//! [`NetDialer`] is a [`hw_door::Dialer`] over any wires. Its lanes ask once each, and await a response, or become a WebSocket; their numbers are its own.
+//!
+//! ```text
+//! let mut dialer = NetDialer::start(alloc, wires, addresses);
+//! let lane = dialer.ask(0, Method::Get, target, Some(upgrade))?;
+//! loop {
+//!     let heard = dialer.next(wait)?;
+//!     match heard.event {
+//!         Event::Upgraded { lane } => begin(lane),         // it is a WebSocket
+//!         Event::Response { lane, status, body } => dialer.shut(lane)?,
+//!         Event::Lost { lane } => forget(lane),            // also where the ask went nowhere
+//!         _ => {}
+//!     }
+//! }
+//! ```
+//!
+//! Proved of each call of a dialer: an `ask` begins at most one connection, and its text waits on the lane; `next` hears the losses of asks that went nowhere
+//! first, and then polls and searches as a door does, without accepting; `send`, `shut` and `flush` do on a lane's wire what a door's do. No lane comes twice
+//! ([`asks_rise`]).
+//!
 //! The crate doesn't know what a request means, what a message says, sockets, nor clocks: moments are those that the wires polled.
 #![tactic(auto)]
 
+mod asking;
+mod dialer;
 mod door;
 mod finding;
 mod first_read;
@@ -98,21 +120,25 @@ mod lane;
 mod lanes;
 mod laws;
 mod limits;
+mod numbers;
 mod protocol;
+mod reactor;
 mod reading;
 mod refusing;
+mod response_state;
 mod tally;
 mod turns;
 mod websocket_state;
 mod writers;
 mod writing;
 
+pub use dialer::NetDialer;
 pub use door::NetDoor;
 pub use laws::{
-    calls_are_a_session, closing_ends, flushes_are_calls, fullness_is_told, lanes_are_bounded,
-    lanes_are_reached, limits_are_named, losses_have_causes, numbers_rise, replies_are_written,
-    requests_are_asked, requests_are_free, requests_wait_for_replies, sockets_are_carried,
-    wires_are_shut_for_a_cause,
+    asks_rise, calls_are_a_session, closing_ends, flushes_are_calls, fullness_is_told,
+    lanes_are_bounded, lanes_are_reached, limits_are_named, losses_have_causes, numbers_rise,
+    replies_are_said, replies_are_written, requests_are_asked, requests_are_free,
+    requests_wait_for_replies, sockets_are_carried, wires_are_shut_for_a_cause,
 };
 pub use limits::{
     MOST_BEFORE_FULL, MOST_CLOSING, MOST_DRAINED, MOST_GATHERED, MOST_GATHERED_BYTES, MOST_NAMED,

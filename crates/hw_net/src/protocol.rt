@@ -1,12 +1,17 @@
 //! What a lane speaks, and how far it is.
 
 use crate::http_state::HttpState;
+use crate::response_state::ResponseState;
 use crate::websocket_state::WebSocketState;
 
 /// What a lane speaks.
 #[derive(Drop)]
 pub enum Protocol {
+    /// Requests come, and replies go out.
     Http(HttpState),
+    /// It asked, and its response comes.
+    Response(ResponseState),
+    /// Messages come and go.
     Socket(WebSocketState),
 }
 

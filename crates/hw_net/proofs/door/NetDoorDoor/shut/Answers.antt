@@ -1,28 +1,7 @@
-use Rattle.std.proofs.Common.{rules, Err, refl, ap, ◌∙◌}
-use Rattle.hw_net.specs.Turn.{Shuts}
-use Rattle.hw_net.proofs.Places.{does-nothing, does-at}
-use Rattle.std.proofs.lemmas.Result.{err_from_is_err_and}
-use Rattle.hw_door.specs.declared.heard.Given.TheVariants as say
-use Rattle.hw_net.proofs.Goings.{shut-goes, unsaid}
+use Rattle.hw_net.proofs.Goings.{shut-goes}
 use Rattle.hw_net.proofs.door.NetDoorDoor.shut.Goals as goal
 
-pub returns-in_default-clause-shut : goal.returns-in_default-clause-shut
-returns-in_default-clause-shut g c =
-    does-nothing (g.W.Wires.trace c.args.self.now.wires) c.args.lane c.args.self.now.from _ c.args.self.now.named _ c.args.self.now.moment _ (Shuts c.args.self.now.moment) c.args.self.now.lanes.items (search rules) (search rules) (search rules) (search rules)
-
-pub returns-clause-shut : goal.returns-clause-shut
-returns-clause-shut g c =
-    let trace = g.W.Wires.trace in
-    does-at (trace c.args.self.now.wires) (trace c.shut.new.wires) c.args.lane c.args.self.now.from _ c.args.self.now.named _ c.args.self.now.moment _ (Shuts c.args.self.now.moment) c.args.self.now.lanes.items c.shut.new.self.items c.in-Some.index
-    (search rules) (search rules) (search rules) (search rules) (search rules)
-
-pub returns-in_default-clause-given : goal.returns-in_default-clause-given
-returns-in_default-clause-given g c = shut-goes g.W.Wires.trace g.W.Wires.wires g.W.Wires.faults c.args.lane c.args.self.now c.args.self.now (returns-in_default-clause-shut g c) refl refl
-
-pub returns-in_err-shut-clause-given : goal.returns-in_err-shut-clause-given
-returns-in_err-shut-clause-given g c =
-    let p = err_from_is_err_and c.from_residual.result c.from_residual.ensures.1 in
-    unsaid g.W.Wires.trace g.W.Wires.wires g.W.Wires.faults (say.Shut c.args.lane) c.from_residual.result c.args.self.now _ (p.1 ∙ ap Err p.2) (search rules) (search rules) (search rules) (search rules)
-
 pub returns-clause-given : goal.returns-clause-given
-returns-clause-given g c = shut-goes g.W.Wires.trace g.W.Wires.wires g.W.Wires.faults c.args.lane c.args.self.now _ (returns-clause-shut g c) (search rules) (search rules)
+returns-clause-given g c =
+    rw (← c.self.view_is) (shut-goes g.W.Wires.trace g.W.Wires.wires g.W.Wires.faults c.args.lane c.shut.result c.self.inside.reactor c.shut.new.self c.shut.ensures.shut c.shut.ensures.memory
+    c.shut.ensures.unchanged c.shut.ensures.bound c.shut.ensures.gathering)
