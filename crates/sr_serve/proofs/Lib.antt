@@ -1,3 +1,4 @@
 pub mod Delivering
 pub mod Sided
 pub mod Served
+pub mod Wired

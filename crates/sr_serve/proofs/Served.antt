@@ -25,7 +25,7 @@ use Rattle.sr_serve.proofs.Delivering.{Laws, are_sides}
 use Rattle.sr_serve.proofs.Sided.{Leads, served_on}
 
 -- a server that did nothing has no peers
-none_yet : ArePeers serve_hub (work [])
+pub none_yet : ArePeers serve_hub (work [])
 none_yet c t is = absurd (let z : ◌≡◌ {A = Option Settings} None (Some t) = is in cc)
 
 module _ (laws : Laws) (s : Setup) (base : List ℕ) (resend : ResendLimits) (live : ℕ) (setup : IsSetup s base resend live) where

@@ -9,9 +9,13 @@
 //! this base says whose ends hold so much and of whose connections so many live (`hd_server`), over any door, keeper, lots and sink. What each connection did
 //! there is what a peer can do, and in every world of which it is the server's side each message comes once and in order (`specs/Sides`).
 //!
+//! Over a `NetDoor` it is so to the byte, on each wire ([`wires_are_served`], `specs/Wires`).
+//!
 //! The crate doesn't know sockets, clocks or the words of a command line.
 #![tactic(auto)]
 
+mod laws;
 mod serving;
 
+pub use laws::wires_are_served;
 pub use serving::{ServeError, serve_hub};

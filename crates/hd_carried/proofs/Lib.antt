@@ -1,0 +1,4 @@
+pub mod Known
+pub mod Turned
+pub mod Coming
+pub mod Wired
