@@ -5,5 +5,6 @@ pub mod Events
 pub mod Plans
 pub mod Dialing
 pub mod Dialers
+pub mod Telling
 pub mod Sessions
 pub mod Laws

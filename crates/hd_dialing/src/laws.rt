@@ -1,6 +1,7 @@
 //! Laws of dialing. No function here does anything: its contract is the law.
 
 ghost use Rattle.hd_dialing.specs.Laws.{AllAskByToken, AllKeepPauses, AllLoseFew, AwayIsDialed, DialersArePatient, EachDialsAlone, EventsReachOne, FirstLossesAreMetAtOnce, LanesAreApart, LinksCountAnew, LossesAreMet, NewsIsOfLinks, NothingAfterTheEnd, OneLaneAtMost, OtherLanesPassOver, PhasesSuitAsks, TokensAreKept};
+ghost use Rattle.hd_dialing.specs.Telling.{MovesAdd, WhatIsNewIsToldLast};
 
 /// The lane that is up or being made is that of the last ask, which was for a token while none was told, and for a socket with it afterwards.
 pub fn phases_suit_asks()
@@ -85,4 +86,14 @@ pub fn lanes_are_apart()
 /// What comes on a lane is one connection's at most.
 pub fn events_reach_one()
     ensures { EventsReachOne }
+{}
+
+/// A move adds to what happened, and takes nothing back.
+pub fn moves_add()
+    ensures { MovesAdd }
+{}
+
+/// What the dialer and the lots are told of what is new comes after what they were told before.
+pub fn what_is_new_is_told_last()
+    ensures { WhatIsNewIsToldLast }
 {}
