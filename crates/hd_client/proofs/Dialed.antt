@@ -14,8 +14,8 @@ use Rattle.hd_server.specs.Serves.{all_of}
 use Rattle.hd_dialing.specs.Events.{DialEvent, Shuts, Stops, Phase, Away, Negotiates, Upgrades, Stands, Over, phase, is_up, is_over}
 use Rattle.hd_dialing.specs.Plans.{News, Nothing, Begins, Brings, Drains, Ends, shut}
 use Rattle.hd_dialing.specs.Dialing.{Move, Drops, Leaves, moved, MayMove}
-use Rattle.hd_client.specs.Scripts.{Order}
-use Rattle.hd_client.specs.Scripts as order
+use Rattle.hd_client.specs.declared.order.Order.{Order}
+use Rattle.hd_client.specs.declared.order.Order.TheVariants as order
 use Rattle.hd_client.specs.Setups.{Setup}
 use Rattle.hd_client.specs.Events.{ClientEvent, Dialed, Makes, Declines, Passes, Says, Sees, dialing, settings_of, moves, phase_of, moment, passed, has_closed}
 use Rattle.hd_client.specs.Events as client

@@ -4,7 +4,7 @@ use Rattle.hd_delivery.specs.Bytes.{HoldsOverBytes}
 use Rattle.hd_calls.specs.Hubs.{Hub}
 use Rattle.hd_calls.specs.Peers.{Settings}
 use Rattle.hd_calls.specs.Rules.{IsPeer}
-use Rattle.hd_client.specs.Scripts.{Order}
+use Rattle.hd_client.specs.declared.order.Order.{Order}
 use Rattle.hd_client.specs.Events.{ClientEvent, settings_of, moves, IsClientPeer}
 use Rattle.hd_client.specs.Setups.{Setup}
 use Rattle.hd_client.specs.Turns.{Begin, Turns}

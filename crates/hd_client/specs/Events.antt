@@ -7,8 +7,9 @@ use Rattle.hd_calls.specs.Hubs.{Hub}
 use Rattle.hd_calls.specs.Peers.{PeerEvent, Plain, Settings, steps, is_shut}
 use Rattle.hd_calls.specs.Rules.{CallRefusal, IsPeer}
 use Rattle.hw_door.specs.declared.heard.Event.TheVariants as event
-use Rattle.hd_dialing.specs.Events.{DialEvent, Hears, Draws, Phase, phase, told}
+use Rattle.hd_dialing.specs.Events.{DialEvent, Hears, Phase, phase, told}
 use Rattle.hd_dialing.specs.Events as dial
+use Rattle.hd_dialing.specs.Telling.{has_failed_draw}
 use Rattle.hd_client.specs.Setups.{Setup, settings_with}
 
 pub data ClientEvent : Type 0 where
@@ -90,12 +91,6 @@ abbrev pub closed_itself : List PeerEvent → Bool
 closed_itself [] = false
 closed_itself (Plain (Step_of (Closed reason allow)) ∷ h) = true
 closed_itself (_ ∷ h) = closed_itself h
-
--- its lots were asked, and gave nothing
-abbrev pub has_failed_draw : List DialEvent → Bool
-has_failed_draw [] = false
-has_failed_draw (Draws None ∷ h) = true
-has_failed_draw (_ ∷ h) = has_failed_draw h
 
 pub data Outcome : Type 0 where
   GoesOn : Outcome

@@ -13,9 +13,11 @@ use Rattle.hd_calls.specs.Hubs.{Hub, Answer, End, Invoked, answer_message, messa
 use Rattle.hd_calls.specs.Peers.{Brings, PeerEvent, Handles, Loses, Settings, byte_steps, live_call, live_upload, steps, codec}
 use Rattle.hd_calls.specs.Rules.{CallRefusal, HasPlace, IsRefusedCall, IsRefusedUpload, IsRefusedCancel, IsUnsent, IsPeer}
 use Rattle.hw_door.specs.declared.heard.Heard.{Heard}
+use Rattle.hw_door.specs.DoorCalls.{given_in, full_in}
+use Rattle.hw_door.specs.DoorCalls as door
 use Rattle.hd_dialing.specs.Events.{Stands, Over}
 use Rattle.hd_dialing.specs.Dialing.{Move, happened, IsDialing}
-use Rattle.hd_client.specs.Scripts.{Order}
+use Rattle.hd_client.specs.declared.order.Order.{Order}
 use Rattle.hd_client.specs.Refusals.{unsent, call_refusal, upload_refusal, cancel_refusal}
 use Rattle.hd_client.specs.Setups.{Setup}
 use Rattle.hd_client.specs.Events.{ClientEvent, dialing, settings_of, moves, phase_of, is_full, is_over}
@@ -85,9 +87,9 @@ pub record HasDialed {Job : Type 0} (hub : Hub Job) (s : Setup) (script : List O
   pub begins : List Begin
   pub count : length begins ≡ n
   pub turns : Turns hub s script (begins ++ bs) after
-  pub hears : told.heard ≡ heard_by begins
-  pub gives : given after ≡ given h ++ told.given
-  pub answers : seen after ≡ seen h ++ told.full
+  pub hears : door.heard_in told.calls ≡ heard_by begins
+  pub gives : given after ≡ given h ++ given_in told.calls
+  pub answers : seen after ≡ seen h ++ full_in told.calls
   pub draws_more : draws after ≡ draws h ++ told.drawn
   pub prints : printed s after ≡ printed s h ++ told.printed
 

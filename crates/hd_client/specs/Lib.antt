@@ -1,4 +1,3 @@
-pub mod Scripts
 pub mod Refusals
 pub mod Setups
 pub mod Events

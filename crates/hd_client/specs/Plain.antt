@@ -17,7 +17,7 @@ use Rattle.hd_dialing.specs.Events.{Phase, Stands}
 use Rattle.hd_dialing.specs.Plans.{Dial, News}
 use Rattle.hd_dialing.specs.Plans as news
 use Rattle.hd_dialing.specs.Dialing.{moved}
-use Rattle.hd_client.specs.Scripts.{Order}
+use Rattle.hd_client.specs.declared.order.Order.{Order}
 use Rattle.hd_client.specs.Setups.{Setup}
 use Rattle.hd_client.specs.Events.{ClientEvent, dialing, settings_of, moves, phase_of, moment, is_over}
 use Rattle.hd_client.specs.Plans.{linking, next_line, closing, losses}

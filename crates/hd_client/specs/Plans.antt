@@ -11,8 +11,8 @@ use Rattle.hd_calls.specs.Rules.{any_below, CallRefusal, Unsent}
 use Rattle.hd_server.specs.Lives.{numbers_to}
 use Rattle.hd_dialing.specs.Events.{Shuts, Stops, Phase, Away, Negotiates, Upgrades, Stands, Over}
 use Rattle.hd_dialing.specs.Plans.{News, Begins, Ends}
-use Rattle.hd_client.specs.Scripts.{Order}
-use Rattle.hd_client.specs.Scripts as order
+use Rattle.hd_client.specs.declared.order.Order.{Order}
+use Rattle.hd_client.specs.declared.order.Order.TheVariants as order
 use Rattle.hd_client.specs.Refusals.{next_call, number_of, call_refusal, upload_refusal, cancel_refusal}
 use Rattle.hd_client.specs.Setups.{Setup}
 use Rattle.hd_client.specs.Events.{ClientEvent, Dialed, Makes, Declines, Passes, settings_of, moves, phase_of, moment, passed, is_over, has_shaken, has_closed}

@@ -25,8 +25,8 @@ use Rattle.hw_lanes.specs.declared.http.Method.TheVariants.{Get, Post}
 use Rattle.hd_server.specs.Numbers.{most_frame, most_held, most_held_bytes}
 use Rattle.hd_dialing.specs.Bodies.{Told}
 use Rattle.hd_dialing.specs.Plans.{Dial}
-use Rattle.hd_client.specs.Scripts.{Order}
-use Rattle.hd_client.specs.Scripts as order
+use Rattle.hd_client.specs.declared.order.Order.{Order}
+use Rattle.hd_client.specs.declared.order.Order.TheVariants as order
 use Rattle.hd_client.specs.Setups.{Words, Setup}
 use Rattle.hd_client.specs.Events.{Outcome, outcome}
 use Rattle.hd_client.specs.Printed.{printed}
@@ -255,10 +255,10 @@ abbrev pub sends : ℕ → List LinkFrame → Given
 sends lane fs = give.Bytes lane (all_texts fs) true
 
 abbrev pub asks_token : Given
-asks_token = give.Ask 1 Post (codes "/hub/negotiate?negotiateVersion=1&useStatefulReconnect=true") None
+asks_token = give.Ask 1 0 Post (codes "/hub/negotiate?negotiateVersion=1&useStatefulReconnect=true") None
 
 abbrev pub asks_socket : ℕ → Given
-asks_socket lane = give.Ask lane Get (codes "/hub?id=T") (Some (record { key = key; seed = seed }))
+asks_socket lane = give.Ask lane 0 Get (codes "/hub?id=T") (Some (record { key = key; seed = seed }))
 
 -- the call to add, as it is sent
 abbrev pub adding : LinkFrame

@@ -18,7 +18,7 @@ use Rattle.hd_dialing.specs.Events.{DialEvent, Phase, Stands}
 use Rattle.hd_dialing.specs.Plans.{Dial, News, Nothing, Brings, news}
 use Rattle.hd_dialing.specs.Dialing.{Move, moved, MayMove}
 use Rattle.hd_dialing.specs.Dialing as move
-use Rattle.hd_client.specs.Scripts.{Order}
+use Rattle.hd_client.specs.declared.order.Order.{Order}
 use Rattle.hd_client.specs.Setups.{Setup}
 use Rattle.hd_client.specs.Events.{ClientEvent, Dialed, Makes, Says, Sees, dialing, settings_of, moves, phase_of, moment, is_full, is_over, has_closed, IsClientPeer}
 use Rattle.hd_client.specs.Plans.{linking, ticking, next_line, closing, losses, leaving}

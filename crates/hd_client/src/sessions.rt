@@ -4,7 +4,7 @@ ghost use Rattle.std.specs.Prelude.{◌≡◌, false, [], ◌∷◌, ◌++◌, S
 ghost use Rattle.hw_door.specs.declared.heard.Event.TheVariants as event;
 ghost use Rattle.hw_door.specs.declared.heard.Given.TheVariants as give;
 ghost use Rattle.hd_delivery.specs.Frames.{Ack, Close, Ping, Sequence};
-ghost use Rattle.hd_client.specs.Scripts as order;
+ghost use Rattle.hd_client.specs.declared.order.Order.TheVariants as order;
 ghost use Rattle.hd_client.specs.Events.{FailsToDraw, GoesOn, IsDone, IsRefused};
 ghost use Rattle.hd_client.specs.Sessions.{add, adding, answer, answered, asks_socket, asks_token, at, bytes, comes_again, dials, ends_by, filling, four_lost, given_by, lost_after, notifies, on, plainly_up, printed_by, request, sends, setup, setup_of_one, undrawn, up, waits_by};
 
