@@ -1,5 +1,5 @@
 -- What holds of scripts.
-use Rattle.std.specs.Prelude.{◌≡◌, ◌<◌, ℕ, List, [], ◌∷◌, ◌++◌, length}
+use Rattle.std.specs.Prelude.{◌≡◌, ◌<◌, ◌≤◌, ◌+◌, ℕ, min, List, [], ◌∷◌, ◌++◌, length, take, drop}
 use Rattle.hd_facts.specs.Unique.{IsTheOne}
 use Rattle.hs_shake.specs.Requests.{IsVersion}
 use Rattle.hd_delivery.specs.Bounds.{AreLimits}
@@ -8,7 +8,8 @@ use Rattle.sr_script.specs.declared.action.Action.{Action}
 use Rattle.sr_script.specs.declared.script.Reader.{Reader}
 use Rattle.sr_script.specs.Script.{Program, Parses, IsRefusedAt, AreInTurn, AllSuit, most_script}
 use Rattle.sr_notation.specs.Terms.{version_in, limits_in, peers_in}
-use Rattle.sr_script.specs.Reading.{HasRead}
+use Rattle.sr_script.specs.Lines.{lines_of, text_of}
+use Rattle.sr_script.specs.Reading.{HasRead, IsLineEnd}
 
 -- the actions of a script are in turn
 abbrev pub ScriptsAreInTurn : Type 0
@@ -35,3 +36,13 @@ SettingsComeFirst = (text : List ℕ) (reader : Reader) (settings : List Setting
 abbrev pub LongIsRefusedByItsFront : Type 0
 LongIsRefusedByItsFront = (front more : List ℕ) (number : ℕ) → most_script < length front → IsTheOne (IsRefusedAt front) number
     → IsTheOne (IsRefusedAt (front ++ more)) number
+
+-- a text is its first line and the lines of what comes after that
+abbrev pub LinesAreCut : Type 0
+LinesAreCut = (text : List ℕ) (n : ℕ) → 0 < length text → IsLineEnd text n → lines_of text ≡ take n text ∷ lines_of (drop (min (n + 1) (length text)) text)
+
+-- lines that end within the front of a text don't depend on what comes after it
+pub record FrontsKeepLines : Type 0 where
+  pub same : (front a b : List ℕ) (n : ℕ) → n ≤ length (lines_of (front ++ a)) → length (text_of (take n (lines_of (front ++ a)))) ≤ length front
+      → take n (lines_of (front ++ b)) ≡ take n (lines_of (front ++ a))
+  pub no_fewer : (front more : List ℕ) → length (lines_of front) ≤ length (lines_of (front ++ more))

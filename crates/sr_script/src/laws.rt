@@ -1,6 +1,6 @@
 //! What holds of scripts. No function here does anything: its contract is the law.
 
-ghost use Rattle.sr_script.specs.Laws.{LongIsRefusedByItsFront, ScriptsAreInTurn, ScriptsAreSettled, ScriptsSuit, SettingsComeFirst};
+ghost use Rattle.sr_script.specs.Laws.{FrontsKeepLines, LinesAreCut, LongIsRefusedByItsFront, ScriptsAreInTurn, ScriptsAreSettled, ScriptsSuit, SettingsComeFirst};
 
 /// Each action of a script may come after those before it.
 pub fn scripts_are_in_turn()
@@ -25,4 +25,14 @@ pub fn settings_come_first()
 /// A text of more bytes than a script may have is refused at the line at which its front is.
 pub fn long_is_refused_by_its_front()
     ensures { LongIsRefusedByItsFront }
+{}
+
+/// A text is its first line, up to the end that [`line_end`](crate::line_end) finds, and the lines of what comes after that.
+pub fn lines_are_cut()
+    ensures { LinesAreCut }
+{}
+
+/// The lines that end within the front of a text are the same whatever comes after that front, and there are no fewer with more bytes.
+pub fn fronts_keep_lines()
+    ensures { FrontsKeepLines }
 {}

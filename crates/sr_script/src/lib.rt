@@ -12,6 +12,8 @@
 //! is what the script asks for, in order ([`Reader::next_in`]). The definitions are `specs/Script.antt`. Options are those of
 //! `sr_notation`.
 //!
+//! A script of one peer alone, without letters of ends, is read by the same words: [`line_end`], [`is_passed_over`], [`parse_peer_words`].
+//!
 //! The crate doesn't know what an action does, nor the ends that do it.
 #![tactic(auto)]
 
@@ -23,8 +25,8 @@ mod turn;
 
 pub use action::{Action, Asking, Count};
 pub use laws::{
-    long_is_refused_by_its_front, scripts_are_in_turn, scripts_are_settled, scripts_suit,
-    settings_come_first,
+    fronts_keep_lines, lines_are_cut, long_is_refused_by_its_front, scripts_are_in_turn,
+    scripts_are_settled, scripts_suit, settings_come_first,
 };
-pub use line::Asked;
-pub use script::{MOST_SCRIPT, Reader, Script, ScriptError, parse};
+pub use line::{Asked, is_passed_over, parse_peer_words};
+pub use script::{MOST_SCRIPT, Reader, Script, ScriptError, line_end, parse};

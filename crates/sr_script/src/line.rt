@@ -217,8 +217,12 @@ fn parse_item(alloc: Global, words: &[u8]) -> Result<Option<(u64, Value)>, Alloc
     }
 }
 
-/// The action of a peer for which these words ask after its letter.
-fn parse_peer_words(alloc: Global, side: Side, words: &[u8]) -> Result<Option<Action>, AllocError>
+/// The action of a peer for which these words ask, which stand after the letter of its end.
+pub fn parse_peer_words(
+    alloc: Global,
+    side: Side,
+    words: &[u8],
+) -> Result<Option<Action>, AllocError>
     ensures found { IfOk result (λ r. IfSome r (λ a. IsTheOne (OfPeer side words.now) a × HasFit a)) }
     ensures none { IfOk result (λ r. IfNone r ((a : Action) → OfPeer side words.now a → ⊥)) }
 {
@@ -309,7 +313,7 @@ pub(crate) fn parse_line(alloc: Global, line: &[u8]) -> Result<Option<Asked>, Al
 }
 
 /// Whether the line is passed over: an empty one, or a comment, in UTF-8.
-pub(crate) fn is_passed_over(line: &[u8]) -> bool
+pub fn is_passed_over(line: &[u8]) -> bool
     ensures { IsTrue result ↔ (IsUtf8 line.now × IsPassedOver line.now) }
 {
     match line.first() {

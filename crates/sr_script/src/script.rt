@@ -85,7 +85,7 @@ pub fn parse(alloc: Global, text: &[u8]) -> Result<Script, ScriptError>
 }
 
 /// The length of the first line, without its end.
-fn line_end(text: &[u8]) -> usize
+pub fn line_end(text: &[u8]) -> usize
     ensures { IsLineEnd text.now result }
 {
     for (i, byte) in text.iter().enumerate() {
