@@ -67,7 +67,7 @@ impl ResendLimits {
     }
 
     /// The limits of an end.
-    pub(crate) fn limits(self) -> Limits
+    pub fn limits(self) -> Limits
         ensures { result ≡ limits_with self }
     {
         hd_server::numbers_are_named();
