@@ -1,0 +1,9 @@
+pub mod Lines
+pub mod Peers
+pub mod Taking
+pub mod Grammar
+pub mod Reading
+pub mod Obeying
+pub mod Running
+pub mod Clients
+pub mod Turning
