@@ -38,6 +38,7 @@ STILL_THERE, GONE = 25, 100  # seconds: nothing can be written for 30, but the s
 MOST_PATIENCE = 1  # seconds
 MOST_GROWN = 8_192  # KiB
 ON_LANE, IN_END = 262_144, 100_000  # bytes that may wait in the server: on a lane before it is full, and in an end
+DRAINED = 65_536  # bytes that wait on a full lane once it isn't full any more
 TEXT = 30_000  # letters
 MOST_POSTS = 600
 SLOW = '{"error":"Too slow.","type":7}'
@@ -224,9 +225,10 @@ def is_member(server, _count):
         if json.loads(text)["arguments"][2] != f"{texts:06}" + "x" * (TEXT - 6):
             raise Wrong(f"{text[:80]} in place of text {texts}")
     status, end = member.closing()
-    # It was closed at the text after the last that came. Once that is over, the system may take more of what waits.
+    # It was closed at the text after the last that came, for which its end had no room. Its lane was full then, and stays so while the system takes more of
+    # what waits there, until no more than `DRAINED` bytes do.
     least, most = (member.read - came - in_system[posted] for posted in (texts + 1, texts))
-    is_slow = ON_LANE < most and least <= ON_LANE + IN_END + 2 * TEXT
+    is_slow = DRAINED + IN_END - 2 * TEXT < most and least <= ON_LANE + IN_END + 2 * TEXT
     return f"{'too slow' if is_slow else f'closed when {most} bytes waited'}, after a first part, {status}, {end}"
 
 
