@@ -16,9 +16,11 @@ use Rattle.hw_net.specs.declared.protocol.Protocol.{Protocol}
 use Rattle.hw_net.specs.declared.protocol.Protocol.TheVariants.{Http, Response, Socket}
 use Rattle.hw_net.specs.declared.protocol.Stage.{Stage}
 use Rattle.hw_net.specs.declared.protocol.Stage.TheVariants.{Live, Lost, Closing, Over}
+use Rattle.hw_net.specs.declared.response_state.Expected.{Expected}
 use Rattle.hw_net.specs.HttpState.{HttpStateView, requests_of}
+use Rattle.hw_net.specs.ResponseState.{ResponseStateView}
 use Rattle.hw_net.specs.Door.{new_lane}
-use Rattle.hw_net.specs.Lane.{Lane, waits, after_reply, owes, is_live, is_overdue, protocol_after_shut, protocol_after_reply, protocol_after_upgrade, new_socket, rest_of, after_hearing, protocol_after_continue}
+use Rattle.hw_net.specs.Lane.{Lane, waits, accepted_socket, after_reply, owes, is_live, is_overdue, protocol_after_shut, protocol_after_reply, protocol_after_upgrade, new_socket, rest_of, after_hearing, protocol_after_continue}
 use Rattle.hw_net.specs.Saying.{Writes, WritesOut, DropsOrWrites, SpeaksAs, Says, SaysAt, SaysMore, GathersOrSays, must_end, has_closed_long, is_too_much}
 use Rattle.hw_net.specs.Sessions as session
 use Rattle.hw_net.specs.Sessions.{Call, Session, answers_in, answers_of, request_on, requests_on, HeardRequests, RequestsAreAsked, RefusalsAreDeserved}
@@ -38,10 +40,56 @@ HeardIn bytes requests (Response response_state) = ⊥
 HeardIn bytes requests (Socket websocket_state) =
     (first : List ℕ) × (rest : List ℕ) × (more : List ℕ) × (bytes ≡ first ++ more) × Asks first requests rest
 
--- nothing is read, and what was heard is as before
+-- the same, as far as what was read: the bytes held, or a WebSocket
+abbrev pub ReadsAs : Protocol → Protocol → Type 0
+ReadsAs (Http before) (Http after) = after.lane.held ≡ before.lane.held
+ReadsAs (Http before) (Socket after) = Unit {0}
+ReadsAs (Response before) (Response after) = after ≡ before
+ReadsAs (Response before) (Socket after) = Unit {0}
+ReadsAs (Socket before) (Socket after) = Unit {0}
+ReadsAs _ _ = ⊥
+
+pub reads-same : (before after : Protocol) → after ≡ before → ReadsAs before after
+reads-same before after e = subst (λ (t : Protocol). ReadsAs before t) (sym e) (go before) where
+  go : (t : Protocol) → ReadsAs t t
+  go (Http http_state) = refl
+  go (Response response_state) = refl
+  go (Socket websocket_state) = tt
+
+pub reads-on : (a b c : Protocol) → ReadsAs a b → ReadsAs b c → ReadsAs a c
+reads-on (Http a) (Http b) (Http c) h k = k ∙ h
+reads-on (Http a) (Http b) (Socket c) h k = tt
+reads-on (Http a) (Socket b) (Socket c) h k = tt
+reads-on (Response a) (Response b) (Response c) h k = k ∙ h
+reads-on (Response a) (Response b) (Socket c) h k = tt
+reads-on (Response a) (Socket b) (Socket c) h k = tt
+reads-on (Socket a) (Socket b) (Socket c) h k = tt
+reads-on (Http a) (Response b) c h k = absurd h
+reads-on (Response a) (Http b) c h k = absurd h
+reads-on (Socket a) (Http b) c h k = absurd h
+reads-on (Socket a) (Response b) c h k = absurd h
+reads-on (Http a) (Http b) (Response c) h k = absurd k
+reads-on (Http a) (Socket b) (Http c) h k = absurd k
+reads-on (Http a) (Socket b) (Response c) h k = absurd k
+reads-on (Response a) (Response b) (Http c) h k = absurd k
+reads-on (Response a) (Socket b) (Http c) h k = absurd k
+reads-on (Response a) (Socket b) (Response c) h k = absurd k
+reads-on (Socket a) (Socket b) (Http c) h k = absurd k
+reads-on (Socket a) (Socket b) (Response c) h k = absurd k
+
+-- so what was heard is as before
+reads-heard : (before after : Protocol) (bytes : List ℕ) (requests : List Request) → ReadsAs before after → HeardIn bytes requests before → HeardIn bytes requests after
+reads-heard (Http before) (Http after) bytes requests e h = subst (λ (l : List ℕ). Asks bytes requests l) (sym e) h
+reads-heard (Http before) (Socket after) bytes requests e h = (bytes, before.lane.held, [], sym (append-nil bytes), h)
+reads-heard (Response before) after bytes requests e h = absurd h
+reads-heard (Socket before) (Socket after) bytes requests e h = h
+reads-heard (Http before) (Response after) bytes requests e h = absurd e
+reads-heard (Socket before) (Http after) bytes requests e h = absurd e
+reads-heard (Socket before) (Response after) bytes requests e h = absurd e
+
+-- nothing is read, and what was is as before
 abbrev pub Silent : Lane → Lane → List Answer → Type 0
-Silent before after answers =
-    ((wire : ℕ) → read_on wire answers ≡ []) × ((bytes : List ℕ) (requests : List Request) → HeardIn bytes requests before.protocol → HeardIn bytes requests after.protocol)
+Silent before after answers = ((wire : ℕ) → read_on wire answers ≡ []) × ReadsAs before.protocol after.protocol
 
 -- ---- writing
 
@@ -52,17 +100,17 @@ writes-none at wire waits (bytes_out to (b ∷ bs) ∷ answers) left whole h = w
 writes-none at wire waits (write_failed to ∷ []) left whole h = refl
 writes-none at wire waits _ left whole h = absurd h
 
-speaks-heard : (before after : Protocol) (bytes : List ℕ) (requests : List Request) → SpeaksAs before after → HeardIn bytes requests before → HeardIn bytes requests after
-speaks-heard (Http before) (Http after) bytes requests e h = subst (λ (a : HttpStateView). Asks bytes requests a.lane.held) (sym e) h
-speaks-heard (Response before) (Response after) bytes requests e h = absurd h
-speaks-heard (Socket before) (Socket after) bytes requests e h = h
-speaks-heard _ _ bytes requests e h = absurd e
+speaks-reads : (before after : Protocol) → SpeaksAs before after → ReadsAs before after
+speaks-reads (Http before) (Http after) e = ap (λ (a : HttpStateView). a.lane.held) e
+speaks-reads (Response before) (Response after) e = e
+speaks-reads (Socket before) (Socket after) e = tt
+speaks-reads _ _ e = absurd e
 
 none-of : (wire : ℕ) (answers all : List Answer) → all ≡ answers → read_on wire answers ≡ [] → read_on wire all ≡ []
 none-of wire answers all e f = ap (λ l. read_on wire l) e ∙ f
 
 pub writes-silent : (before after : Lane) (answers : List Answer) → WritesOut before after answers → Silent before after answers
-writes-silent before after answers w = (λ wire. go wire (must_end before.stage (length (waits after)) w.is_whole) refl, λ bytes requests. speaks-heard before.protocol after.protocol bytes requests w.still.protocol) where
+writes-silent before after answers w = (λ wire. go wire (must_end before.stage (length (waits after)) w.is_whole) refl, speaks-reads before.protocol after.protocol w.still.protocol) where
   none : (wire : ℕ) → read_on wire w.sent ≡ []
   none wire = writes-none wire before.wire (waits before) w.sent (waits after) w.is_whole w.writes
 
@@ -71,7 +119,7 @@ writes-silent before after answers w = (λ wire. go wire (must_end before.stage 
   go wire false e = none-of wire w.sent answers (w.stays e).0 (none wire)
 
 protocol-silent : (before after : Lane) (answers : List Answer) → ((wire : ℕ) → read_on wire answers ≡ []) → after.protocol ≡ before.protocol → Silent before after answers
-protocol-silent before after answers none e = (none, λ bytes requests h. subst (λ (t : Protocol). HeardIn bytes requests t) (sym e) h)
+protocol-silent before after answers none e = (none, reads-same before.protocol after.protocol e)
 
 still-silent : (before after : Lane) (answers : List Answer) → answers ≡ [] → after ≡ before → Silent before after answers
 still-silent before after answers e f = protocol-silent before after answers (λ wire. none-of wire [] answers e refl) (ap (λ (l : Lane). l.protocol) f)
@@ -139,15 +187,19 @@ hears-asked wire (Socket before) (Socket after) answers what bytes requests h k 
       go input.Gone n = same-requests [] refl
 hears-asked wire _ _ answers what bytes requests h k = absurd h
 
-upgrade-heard : (protocol : Protocol) (bytes : List ℕ) (requests : List Request) → HeardIn bytes requests protocol → HeardIn bytes requests (protocol_after_upgrade protocol)
-upgrade-heard (Http http_state) bytes requests h = h
-upgrade-heard (Response response_state) bytes requests h = absurd h
-upgrade-heard (Socket websocket_state) bytes requests h = h
+accepted-reads : (upgrade : Option Expected) (response_state : ResponseStateView) → ReadsAs (Response response_state) (accepted_socket upgrade response_state)
+accepted-reads None response_state = refl
+accepted-reads (Some expected) response_state = tt
 
-shut-heard : (protocol : Protocol) (bytes : List ℕ) (requests : List Request) → HeardIn bytes requests protocol → HeardIn bytes requests (protocol_after_shut protocol)
-shut-heard (Http http_state) bytes requests h = h
-shut-heard (Response response_state) bytes requests h = h
-shut-heard (Socket websocket_state) bytes requests h = h
+upgrade-reads : (protocol : Protocol) → ReadsAs protocol (protocol_after_upgrade protocol)
+upgrade-reads (Http http_state) = refl
+upgrade-reads (Response response_state) = accepted-reads response_state.upgrade response_state
+upgrade-reads (Socket websocket_state) = tt
+
+shut-reads : (protocol : Protocol) → ReadsAs protocol (protocol_after_shut protocol)
+shut-reads (Http http_state) = refl
+shut-reads (Response response_state) = refl
+shut-reads (Socket websocket_state) = tt
 
 falls-silent : (before after : Lane) (answers : List Answer) (heard : Option Event) → Falls before after answers heard → Silent before after answers
 falls-silent before after answers heard h = protocol-silent before after answers (λ wire. none-of wire (was_shut before.wire ∷ []) answers h.0 refl) (ap (λ (l : Lane). l.protocol) h.2)
@@ -165,10 +217,10 @@ settles-silent now before after answers (input.Refused refusal) heard h = passes
 settles-silent now before after answers (input.Message bytes) heard h = passes-silent before before after answers _ heard refl h
 settles-silent now before after answers (input.Response status body) heard h = passes-silent before before after answers _ heard refl h
 settles-silent now before after answers input.Upgraded heard h =
-    (λ wire. none-of wire [] answers h.0 refl, λ bytes requests k. subst (λ (l : Lane). HeardIn bytes requests l.protocol) (sym h.2) (upgrade-heard before.protocol bytes requests k))
+    (λ wire. none-of wire [] answers h.0 refl, subst (λ (l : Lane). ReadsAs before.protocol l.protocol) (sym h.2) (upgrade-reads before.protocol))
 settles-silent now before after answers input.Broken heard h = falls-silent before after answers heard h
 settles-silent now before after answers input.Gone heard h =
-    (λ wire. none-of wire [] answers h.0 refl, λ bytes requests k. subst (λ (l : Lane). HeardIn bytes requests l.protocol) (sym h.2) (shut-heard before.protocol bytes requests k))
+    (λ wire. none-of wire [] answers h.0 refl, subst (λ (l : Lane). ReadsAs before.protocol l.protocol) (sym h.2) (shut-reads before.protocol))
 
 -- the requests that are heard
 abbrev pub requests_in : ℕ → Option Event → List Request
@@ -219,29 +271,39 @@ Asked x y mine more =
 nothing-more : (x y : Lane) (mine : List Answer) (more : List Request) → Silent x y mine → more ≡ [] → Asked x y mine more
 nothing-more x y mine more s e bytes requests k =
     subst (λ (l : List Request). HeardIn (bytes ++ read_on x.wire mine) l y.protocol) (sym (ap (λ l. requests ++ l) e ∙ append-nil requests))
-    (subst (λ (l : List ℕ). HeardIn l requests y.protocol) (sym (ap (λ l. bytes ++ l) (s.0 x.wire) ∙ append-nil bytes)) (s.1 bytes requests k))
+    (subst (λ (l : List ℕ). HeardIn l requests y.protocol) (sym (ap (λ l. bytes ++ l) (s.0 x.wire) ∙ append-nil bytes)) (reads-heard x.protocol y.protocol bytes requests s.1 k))
 
 pub live-reads : (wire : ℕ) (answers read shut written : List Answer) → answers ≡ read ++ (shut ++ written) → read_on wire shut ≡ [] → read_on wire written ≡ [] → read_on wire answers ≡ read_on wire read
 live-reads wire answers read shut written all e f =
     ap (λ l. read_on wire l) all ∙ read-append wire read (shut ++ written) ∙ ap (λ l. read_on wire read ++ l) (read-append wire shut written ∙ ap (λ l. l ++ read_on wire written) e ∙ f) ∙ append-nil (read_on wire read)
 
-continue-heard : (protocol : Protocol) (bytes : List ℕ) (requests : List Request) → HeardIn bytes requests protocol → HeardIn bytes requests (protocol_after_continue protocol)
-continue-heard (Http http_state) bytes requests h = h
-continue-heard (Response response_state) bytes requests h = h
-continue-heard (Socket websocket_state) bytes requests h = h
+continue-reads : (protocol : Protocol) → ReadsAs protocol (protocol_after_continue protocol)
+continue-reads (Http http_state) = refl
+continue-reads (Response response_state) = refl
+continue-reads (Socket websocket_state) = tt
+
+-- once a live lane has heard, the rest of its turn is silent
+pub rest-silent : (now : ℕ) (x y : Lane) (mine : List Answer) (own : Option Event) (h : TurnsLive now x y mine own) →
+    (read_on x.wire mine ≡ read_on x.wire h.read) × ReadsAs h.protocol y.protocol × ReadsAs h.settled.protocol y.protocol
+rest-silent now x y mine own h =
+    let settled = settles-silent now (after_hearing h.protocol x) h.settled h.shut h.input h.trace h.settles in
+    let said = says-silent now h.settled h.said h.written h.says in
+    let last : ReadsAs h.settled.protocol y.protocol = subst (λ (t : Protocol). ReadsAs h.settled.protocol t) (sym (loses-protocol h.trace h.said y own h.loses)) said.1 in (
+      live-reads x.wire mine h.read h.shut h.written h.all (settled.0 x.wire) (said.0 x.wire),
+      reads-on h.protocol (protocol_after_continue h.protocol) y.protocol (continue-reads h.protocol) (reads-on (protocol_after_continue h.protocol) h.settled.protocol y.protocol settled.1 last),
+      last,
+    )
 
 live-asked : (now : ℕ) (x y : Lane) (mine : List Answer) (own : Option Event) → TurnsLive now x y mine own → Asked x y mine (requests_in x.wire own)
 live-asked now x y mine own h bytes requests k =
-    let settled = settles-silent now (after_hearing h.protocol x) h.settled h.shut h.input h.trace h.settles in
-    let said = says-silent now h.settled h.said h.written h.says in
     let news_are : requests_in x.wire own ≡ requests_of h.input =
     loses-requests x.wire h.trace h.said y own h.loses ∙ settles-requests now (after_hearing h.protocol x) h.settled h.shut h.input h.trace h.settles in
-    let reads = live-reads x.wire mine h.read h.shut h.written h.all (settled.0 x.wire) (said.0 x.wire) in
+    let rest = rest-silent now x y mine own h in
     let heard = hears-asked x.wire x.protocol h.protocol h.read h.input bytes requests h.hears k in
     let all = bytes ++ read_on x.wire h.read in
     let most = requests ++ requests_of h.input in
-    let at_end : HeardIn all most y.protocol = subst (λ (t : Protocol). HeardIn all most t) (sym (loses-protocol h.trace h.said y own h.loses)) (said.1 all most (settled.1 all most (continue-heard h.protocol all most heard))) in
-    subst (λ (l : List ℕ). HeardIn (bytes ++ l) (requests ++ requests_in x.wire own) y.protocol) (sym reads) (subst (λ (l : List Request). HeardIn all (requests ++ l) y.protocol) (sym news_are) at_end)
+    let at_end : HeardIn all most y.protocol = reads-heard h.protocol y.protocol all most rest.1 heard in
+    subst (λ (l : List ℕ). HeardIn (bytes ++ l) (requests ++ requests_in x.wire own) y.protocol) (sym rest.0) (subst (λ (l : List Request). HeardIn all (requests ++ l) y.protocol) (sym news_are) at_end)
 
 listens-asked : (now : ℕ) (x y : Lane) (mine : List Answer) (own : Option Event) → Listens now x y mine own → Asked x y mine (requests_in x.wire own)
 listens-asked now x y mine own h = go x.stage h where
@@ -265,13 +327,13 @@ heeds-asked now what x y mine (inr h) = nothing-more x y mine (request_on x.wire
 
 -- ---- saying
 
-replied-heard : (b : Bool) (protocol : Protocol) (bytes : List ℕ) (requests : List Request) → HeardIn bytes requests protocol → HeardIn bytes requests (if b then new_socket (rest_of protocol) else protocol_after_reply protocol)
-replied-heard true (Http http_state) bytes requests h = (bytes, http_state.lane.held, [], sym (append-nil bytes), h)
-replied-heard true (Response response_state) bytes requests h = absurd h
-replied-heard true (Socket websocket_state) bytes requests h = h
-replied-heard false (Http http_state) bytes requests h = h
-replied-heard false (Response response_state) bytes requests h = h
-replied-heard false (Socket websocket_state) bytes requests h = h
+replied-reads : (b : Bool) (protocol : Protocol) → ReadsAs protocol (if b then new_socket (rest_of protocol) else protocol_after_reply protocol)
+replied-reads true (Http http_state) = tt
+replied-reads true (Response response_state) = tt
+replied-reads true (Socket websocket_state) = tt
+replied-reads false (Http http_state) = refl
+replied-reads false (Response response_state) = refl
+replied-reads false (Socket websocket_state) = tt
 
 replied-protocol : (now : ℕ) (reply : Reply) (lane : Lane) → (after_reply now reply lane).protocol ≡ (if reply.status == SWITCHING then new_socket (rest_of lane.protocol) else protocol_after_reply lane.protocol)
 replied-protocol now reply lane = go (reply.status == SWITCHING) where
@@ -280,27 +342,25 @@ replied-protocol now reply lane = go (reply.status == SWITCHING) where
   go true = refl
   go false = refl
 
-then-silent : (before mid after : Lane) (answers : List Answer) → ((bytes : List ℕ) (requests : List Request) → HeardIn bytes requests before.protocol → HeardIn bytes requests mid.protocol) → Silent mid after answers → Silent before after answers
-then-silent before mid after answers f s = (s.0, λ bytes requests k. s.1 bytes requests (f bytes requests k))
+then-silent : (before mid after : Lane) (answers : List Answer) → ReadsAs before.protocol mid.protocol → Silent mid after answers → Silent before after answers
+then-silent before mid after answers f s = (s.0, reads-on before.protocol mid.protocol after.protocol f s.1)
 
 pub replies-silent : (now : ℕ) (reply : Reply) (before after : Lane) (answers : List Answer) → Replies now reply before after answers → Silent before after answers
 replies-silent now reply before after answers h = go (owes before) h where
   go : (b : Bool) → Chooses b (SaysMore (after_reply now reply before) after answers) ((answers ≡ []) × (after ≡ before)) → Silent before after answers
   go true h = then-silent before (after_reply now reply before) after answers
-      (λ bytes requests k. subst (λ (t : Protocol). HeardIn bytes requests t) (sym (replied-protocol now reply before)) (replied-heard (reply.status == SWITCHING) before.protocol bytes requests k))
+      (subst (λ (t : Protocol). ReadsAs before.protocol t) (sym (replied-protocol now reply before)) (replied-reads (reply.status == SWITCHING) before.protocol))
       (more-silent (after_reply now reply before) after answers h)
   go false h = still-silent before after answers h.0 h.1
 
-put-heard : (live : Bool) (protocol : Protocol) (bytes : List ℕ) (text : Bool) (before after : Lane) (is_put : Bool) → before.protocol ≡ protocol → PutsAt live protocol bytes text before after is_put →
-    (all : List ℕ) (requests : List Request) → HeardIn all requests before.protocol → HeardIn all requests after.protocol
-put-heard true (Socket websocket_state) bytes text before after is_put e h all requests k =
-    subst (λ (l : Lane). HeardIn all requests l.protocol) (sym h.2) (subst (λ (t : Protocol). HeardIn all requests t) e k)
-put-heard true (Http http_state) bytes text before after is_put e h all requests k = subst (λ (l : Lane). HeardIn all requests l.protocol) (sym h.1) k
-put-heard true (Response response_state) bytes text before after is_put e h all requests k = subst (λ (l : Lane). HeardIn all requests l.protocol) (sym h.1) k
-put-heard false protocol bytes text before after is_put e h all requests k = subst (λ (l : Lane). HeardIn all requests l.protocol) (sym h.1) k
+put-reads : (live : Bool) (protocol : Protocol) (bytes : List ℕ) (text : Bool) (before after : Lane) (is_put : Bool) → before.protocol ≡ protocol → PutsAt live protocol bytes text before after is_put → ReadsAs before.protocol after.protocol
+put-reads true (Socket websocket_state) bytes text before after is_put e h = subst (λ (t : Protocol). ReadsAs t after.protocol) (sym e) (subst (λ (l : Lane). ReadsAs (Socket websocket_state) l.protocol) (sym h.2) tt)
+put-reads true (Http http_state) bytes text before after is_put e h = reads-same before.protocol after.protocol (ap (λ (l : Lane). l.protocol) h.1)
+put-reads true (Response response_state) bytes text before after is_put e h = reads-same before.protocol after.protocol (ap (λ (l : Lane). l.protocol) h.1)
+put-reads false protocol bytes text before after is_put e h = reads-same before.protocol after.protocol (ap (λ (l : Lane). l.protocol) h.1)
 
 pub sends-silent : (now : ℕ) (bytes : List ℕ) (text : Bool) (before after : Lane) (answers : List Answer) → Sends now bytes text before after answers → Silent before after answers
-sends-silent now bytes text before after answers h = then-silent before h.0 after answers (put-heard (is_live before.stage) before.protocol bytes text before h.0 h.1 refl h.2) (go h.0 h.1 h.3) where
+sends-silent now bytes text before after answers h = then-silent before h.0 after answers (put-reads (is_live before.stage) before.protocol bytes text before h.0 h.1 refl h.2) (go h.0 h.1 h.3) where
   go : (mid : Lane) (b : Bool) → SaysPut now b mid after answers → Silent mid after answers
   go mid true h = subst (λ (l : Lane). Silent mid l answers) (sym h.2) (gathered-silent mid h.0 answers h.1)
   go mid false h = still-silent mid after answers h.0 h.1
@@ -308,11 +368,11 @@ sends-silent now bytes text before after answers h = then-silent before h.0 afte
 pub shuts-silent : (now : ℕ) (before after : Lane) (answers : List Answer) → Shuts now before after answers → Silent before after answers
 shuts-silent now before after answers h = go (is_live before.stage) h where
   go : (b : Bool) → Chooses b (WritesOut (record before { since = now; protocol = protocol_after_shut before.protocol; stage = Closing }) after answers) ((answers ≡ []) × (after ≡ before)) → Silent before after answers
-  go true h = then-silent before (record before { since = now; protocol = protocol_after_shut before.protocol; stage = Closing }) after answers (λ bytes requests k. shut-heard before.protocol bytes requests k)
+  go true h = then-silent before (record before { since = now; protocol = protocol_after_shut before.protocol; stage = Closing }) after answers (shut-reads before.protocol)
       (writes-silent (record before { since = now; protocol = protocol_after_shut before.protocol; stage = Closing }) after answers h)
   go false h = still-silent before after answers h.0 h.1
 
-at-silent : (wire : ℕ) (Does : Lane → Lane → List Answer → Type 0) (x y : Lane) (mine : List Answer) → (Does x y mine → Silent x y mine) → ActsAt wire Does x y mine → Silent x y mine
+pub at-silent : (wire : ℕ) (Does : Lane → Lane → List Answer → Type 0) (x y : Lane) (mine : List Answer) → (Does x y mine → Silent x y mine) → ActsAt wire Does x y mine → Silent x y mine
 at-silent wire Does x y mine each h = go (x.wire == wire) h where
   go : (b : Bool) → Chooses b (Does x y mine) ((y ≡ x) × (mine ≡ [])) → Silent x y mine
   go true h = each h
@@ -427,12 +487,9 @@ hears-refused wire before after answers _ refusal bytes requests e h k = absurd 
 live-refused : (now : ℕ) (x y : Lane) (mine : List Answer) (own : Option Event) (refusal : Refusal) (bytes : List ℕ) (requests : List Request) → TurnsLive now x y mine own → refusal_in own ≡ Some refusal →
     HeardIn bytes requests x.protocol → Deserves (bytes ++ read_on x.wire mine) requests refusal
 live-refused now x y mine own refusal bytes requests h e k =
-    let settled = settles-silent now (after_hearing h.protocol x) h.settled h.shut h.input h.trace h.settles in
-    let said = says-silent now h.settled h.said h.written h.says in
     let news_is : refusal_of h.input ≡ Some refusal =
     sym (settles-refusal now (after_hearing h.protocol x) h.settled h.shut h.input h.trace h.settles) ∙ sym (loses-refusal h.trace h.said y own h.loses) ∙ e in
-    let reads = live-reads x.wire mine h.read h.shut h.written h.all (settled.0 x.wire) (said.0 x.wire) in
-    subst (λ (l : List ℕ). Deserves (bytes ++ l) requests refusal) (sym reads) (hears-refused x.wire x.protocol h.protocol h.read h.input refusal bytes requests news_is h.hears k)
+    subst (λ (l : List ℕ). Deserves (bytes ++ l) requests refusal) (sym (rest-silent now x y mine own h).0) (hears-refused x.wire x.protocol h.protocol h.read h.input refusal bytes requests news_is h.hears k)
 
 listens-refused : (now : ℕ) (x y : Lane) (mine : List Answer) (own : Option Event) (refusal : Refusal) (bytes : List ℕ) (requests : List Request) → Listens now x y mine own → refusal_in own ≡ Some refusal →
     HeardIn bytes requests x.protocol → Deserves (bytes ++ read_on x.wire mine) requests refusal

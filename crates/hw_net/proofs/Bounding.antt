@@ -73,7 +73,7 @@ says-within now before after answers h = go before.stage refl h where
   go Closing e h = dropped-or-within (has_closed_long now before.since) before after answers h
   go Over e h = shut-within after (ap (λ (l : Lane). has_wire l.stage) h.1 ∙ ap has_wire e)
 
-bystander-within : (now : ℕ) (before after : Lane) (answers : List Answer) → IsWithin before → SaysOrStays now before after answers → IsWithin after
+pub bystander-within : (now : ℕ) (before after : Lane) (answers : List Answer) → IsWithin before → SaysOrStays now before after answers → IsWithin after
 bystander-within now before after answers k (inl h) = says-within now before after answers h
 bystander-within now before after answers k (inr h) = same-within before after h.0 k
 
@@ -311,7 +311,7 @@ fails-within wait gathering before after answers h k =
     let gathered = gathers-within wait gathering h.gathering_after h.wait_after before h.mid h.first h.gathers k in
     flushes-within (record h.mid { lanes = kept h.mid.lanes }) after h.last h.flushes (kept-within h.mid.lanes gathered)
 
-reply-within : (now : ℕ) (reply : Reply) (before after : Lane) (answers : List Answer) → Replies now reply before after answers → IsWithin before → IsWithin after
+pub reply-within : (now : ℕ) (reply : Reply) (before after : Lane) (answers : List Answer) → Replies now reply before after answers → IsWithin before → IsWithin after
 reply-within now reply before after answers h k = go (owes before) h where
   go : (b : Bool) → Chooses b (SaysMore (after_reply now reply before) after answers) ((answers ≡ []) × (after ≡ before)) → IsWithin after
   go true h = more-within (after_reply now reply before) after answers h
@@ -321,7 +321,7 @@ pub replies-within : RepliesAreWithin
 replies-within lane now reply before after answers h k =
     at-within lane (Replies now reply) before.lanes after.lanes answers (reply-within now reply) h.0 k
 
-shuts-one : (now : ℕ) (before after : Lane) (answers : List Answer) → Shuts now before after answers → IsWithin before → IsWithin after
+pub shuts-one : (now : ℕ) (before after : Lane) (answers : List Answer) → Shuts now before after answers → IsWithin before → IsWithin after
 shuts-one now before after answers h k = go (is_live before.stage) h where
   go : (b : Bool) → Chooses b (WritesOut (record before { since = now; protocol = protocol_after_shut before.protocol; stage = Closing }) after answers) ((answers ≡ []) × (after ≡ before)) → IsWithin after
   go true h = writes-within (record before { since = now; protocol = protocol_after_shut before.protocol; stage = Closing }) after answers h
@@ -355,7 +355,7 @@ gathered-within before after answers h = go (is_gathered (length (waits before))
   go true e h = same-within before after h.1 (λ has. is-little (length (waits before)) e)
   go false e h = more-within before after answers h
 
-send-within : (now : ℕ) (bytes : List ℕ) (text : Bool) (before after : Lane) (answers : List Answer) → Sends now bytes text before after answers → IsWithin before → IsWithin after
+pub send-within : (now : ℕ) (bytes : List ℕ) (text : Bool) (before after : Lane) (answers : List Answer) → Sends now bytes text before after answers → IsWithin before → IsWithin after
 send-within now bytes text before after answers h k = go h.0 h.1 h.2 h.3 where
   go : (mid : Lane) (b : Bool) → Puts bytes text before mid b → SaysPut now b mid after answers → IsWithin after
   go mid true p h = subst IsWithin (sym h.2) (gathered-within mid h.0 answers h.1)

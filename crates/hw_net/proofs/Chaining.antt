@@ -97,7 +97,7 @@ at-lane wire One Other f (lane ∷ lanes) after answers h = go (lane.wire == wir
   go true h again = (h.0, h.1, f lane h.0 answers h.2)
   go false h again = (h.0, h.1, again h.0 h.2)
 
-sends-as : (is_put : Bool) (now : ℕ) (bytes : List ℕ) (text : Bool) (x y : Lane) (mine : List Answer) → SendsAs is_put now bytes text x y mine → Sends now bytes text x y mine
+pub sends-as : (is_put : Bool) (now : ℕ) (bytes : List ℕ) (text : Bool) (x y : Lane) (mine : List Answer) → SendsAs is_put now bytes text x y mine → Sends now bytes text x y mine
 sends-as is_put now bytes text x y mine h = (h.0, is_put, h.1, h.2)
 
 writes-tell : (writes all : List Call) → AreWrites writes → told_in_all (writes ++ all) ≡ told_in_all all
@@ -166,7 +166,7 @@ one-call bound faults all (door.sent (say.Ask lane place method target upgrade) 
 
 -- ---- all calls
 
-both-true : (a b : Bool) → a && b ≡ true → (a ≡ true) × (b ≡ true)
+pub both-true : (a b : Bool) → a && b ≡ true → (a ≡ true) × (b ≡ true)
 both-true true true e = (refl, refl)
 both-true true false e = absurd (cc e)
 both-true false b e = absurd (cc e)

@@ -28,12 +28,12 @@ use Rattle.hw_net.proofs.Numbering.{replied-wire, put-wire}
 use Rattle.hw_net.proofs.Owed.{by-number}
 use Rattle.hw_net.proofs.Owning.{is_on, settles-keeps, says-keeps}
 use Rattle.hw_net.proofs.Shares.{share, shut-append, shut-share, shut-skip, same}
-use Rattle.hw_net.proofs.Walks.{IsHeard, Heeds, Moves, moves-wire, IsUntouched, Steps, steps-in, each-come, before-come, mover-came, find, off-and-on}
+use Rattle.hw_net.proofs.Walks.{IsHeard, Heeds, Moves, moves-wire, IsUntouched, steps-in, each-come, before-come, mover-came, find, off-and-on}
 
 -- ---- answers, of which a shut is the last
 
 -- once the wire was shut no answer is about it
-abbrev ShutLast : ℕ → List Answer → Type 0
+abbrev pub ShutLast : ℕ → List Answer → Type 0
 ShutLast wire [] = Unit {0}
 ShutLast wire (answer ∷ answers) = (was_shut_in wire (answer ∷ []) ≡ true → are_about wire answers ≡ false) × ShutLast wire answers
 
@@ -64,7 +64,7 @@ about-append : (w : ℕ) (xs ys : List Answer) → are_about w (xs ++ ys) ≡ (a
 about-append w [] ys = refl
 about-append w (x ∷ xs) ys = ap (λ b. is_about w x || b) (about-append w xs ys) ∙ sym (or-assoc (is_about w x) (are_about w xs) (are_about w ys))
 
-about-share : (w : ℕ) (xs : List Answer) → are_about w xs ≡ are_about w (share w xs)
+pub about-share : (w : ℕ) (xs : List Answer) → are_about w xs ≡ are_about w (share w xs)
 about-share w [] = refl
 about-share w (x ∷ xs) = go (is_about w x) refl (about-share w xs) where
   go : (b : Bool) → is_about w x ≡ b → are_about w xs ≡ are_about w (share w xs) → (is_about w x || are_about w xs) ≡ are_about w (if b then x ∷ share w xs else share w xs)
@@ -77,25 +77,25 @@ unshut-last w (x ∷ xs) e =
     let both : (was_shut_in w (x ∷ []) || was_shut_in w xs) ≡ false = sym (shut-append w (x ∷ []) xs) ∙ e in
     (λ h. absurd (cc (sym (or-left (was_shut_in w (x ∷ [])) (was_shut_in w xs) both) ∙ h)), unshut-last w xs (or-right (was_shut_in w (x ∷ [])) (was_shut_in w xs) both))
 
-last-append : (w : ℕ) (xs ys : List Answer) → ShutLast w xs → ShutLast w ys → (was_shut_in w xs ≡ true → are_about w ys ≡ false) → ShutLast w (xs ++ ys)
+pub last-append : (w : ℕ) (xs ys : List Answer) → ShutLast w xs → ShutLast w ys → (was_shut_in w xs ≡ true → are_about w ys ≡ false) → ShutLast w (xs ++ ys)
 last-append w [] ys h k then_none = k
 last-append w (x ∷ xs) ys h k then_none = (
   λ shut. about-append w xs ys ∙ neither (are_about w xs) (are_about w ys) (h.0 shut) (then_none (shut-append w (x ∷ []) xs ∙ ap (λ b. b || was_shut_in w xs) shut)),
   last-append w xs ys h.1 k (λ shut. then_none (shut-append w (x ∷ []) xs ∙ ap (λ b. was_shut_in w (x ∷ []) || b) shut ∙ or-true (was_shut_in w (x ∷ [])))),
 )
 
-last-share : (w : ℕ) (xs : List Answer) → ShutLast w (share w xs) → ShutLast w xs
+pub last-share : (w : ℕ) (xs : List Answer) → ShutLast w (share w xs) → ShutLast w xs
 last-share w [] h = tt
 last-share w (x ∷ xs) h = go (is_about w x) refl h (λ k. last-share w xs k) where
   go : (b : Bool) → is_about w x ≡ b → ShutLast w (if b then x ∷ share w xs else share w xs) → (ShutLast w (share w xs) → ShutLast w xs) → ShutLast w (x ∷ xs)
   go true e h again = (λ shut. about-share w xs ∙ h.0 shut, again h.1)
   go false e h again = (λ shut. absurd (cc (sym (shut-skip w x [] e) ∙ shut)), again h)
 
-none-after : (w : ℕ) (before after : List Answer) → ShutLast w (before ++ was_shut w ∷ after) → are_about w after ≡ false
+pub none-after : (w : ℕ) (before after : List Answer) → ShutLast w (before ++ was_shut w ∷ after) → are_about w after ≡ false
 none-after w [] after h = h.0 (one-shut w)
 none-after w (x ∷ before) after h = none-after w before after h.1
 
-none-before : (w : ℕ) (before after : List Answer) → ShutLast w (before ++ was_shut w ∷ after) → was_shut_in w before ≡ false
+pub none-before : (w : ℕ) (before after : List Answer) → ShutLast w (before ++ was_shut w ∷ after) → was_shut_in w before ≡ false
 none-before w [] after h = refl
 none-before w (x ∷ before) after h = go (was_shut_in w (x ∷ [])) refl (none-before w before after h.1) where
   there : are_about w (before ++ was_shut w ∷ after) ≡ true
@@ -481,9 +481,12 @@ abbrev IsClosed : List Call → Lane → Type 0
 IsClosed calls lane =
     (was_shut_in lane.wire (answers_of calls) ≡ not (has_wire lane.stage)) × (is_done lane.stage ≡ true → is_done_on lane.wire calls ≡ true)
 
-closed-here : (call : Call) (calls : List Call) (x y : Lane) → came_in x.wire (answers_of (call ∷ calls)) ≡ true → IsClosed calls x → Moves call x y →
-    (was_shut_in x.wire (answers_of (call ∷ calls)) ≡ not (has_wire y.stage)) × (is_done y.stage ≡ true → is_done_on x.wire (call ∷ calls) ≡ true)
-closed-here call calls x y came k h = (shut-more x.wire calls call ∙ wire c.ends, λ d. done-more x.wire call calls came ∙ done (c.done d)) where
+-- the same, where this tells that the lane is done
+abbrev pub ClosedBy : Bool → ℕ → List Call → Stage → Type 0
+ClosedBy told wire calls stage = (was_shut_in wire (answers_of calls) ≡ not (has_wire stage)) × (is_done stage ≡ true → told ≡ true)
+
+pub closes-more : (told : Bool) (call : Call) (calls : List Call) (x y : Lane) → ClosedBy told x.wire calls x.stage → Moves call x y → ClosedBy (ends_by x.wire call || told) x.wire (call ∷ calls) y.stage
+closes-more told call calls x y k h = (shut-more x.wire calls call ∙ wire c.ends, λ d. done (c.done d)) where
   c : Closes x.wire x.stage y.stage (share x.wire (answers_in call)) (ends_by x.wire call)
   c = moves-close call x y h
 
@@ -492,9 +495,13 @@ closed-here call calls x y came k h = (shut-more x.wire calls call ∙ wire c.en
   wire (inl e) = ap (λ b. was_shut_in x.wire (answers_of calls) || b) e.0 ∙ or-true (was_shut_in x.wire (answers_of calls)) ∙ ap not (sym e.1)
   wire (inr e) = ap (λ b. was_shut_in x.wire (answers_of calls) || b) e.0 ∙ or-false (was_shut_in x.wire (answers_of calls)) ∙ k.0 ∙ ap not (sym e.1)
 
-  done : (is_done x.stage ≡ true) ⊎ (ends_by x.wire call ≡ true) → (ends_by x.wire call || is_done_on x.wire calls) ≡ true
+  done : (is_done x.stage ≡ true) ⊎ (ends_by x.wire call ≡ true) → (ends_by x.wire call || told) ≡ true
   done (inl d) = ap (λ b. ends_by x.wire call || b) (k.1 d) ∙ or-true (ends_by x.wire call)
-  done (inr d) = ap (λ b. b || is_done_on x.wire calls) d
+  done (inr d) = ap (λ b. b || told) d
+
+closed-here : (call : Call) (calls : List Call) (x y : Lane) → came_in x.wire (answers_of (call ∷ calls)) ≡ true → IsClosed calls x → Moves call x y → ClosedBy (is_done_on x.wire (call ∷ calls)) x.wire (call ∷ calls) y.stage
+closed-here call calls x y came k h =
+    let c = closes-more (is_done_on x.wire calls) call calls x y k h in (c.0, λ d. done-more x.wire call calls came ∙ c.1 d)
 
 step-closed : (call : Call) (calls : List Call) (x y : Lane) → came_in x.wire (answers_of (call ∷ calls)) ≡ true → IsClosed calls x → Moves call x y → IsClosed (call ∷ calls) y
 step-closed call calls x y came k h =
@@ -512,25 +519,29 @@ has-not : (b : Bool) → not b ≡ true → b ≡ false
 has-not true e = absurd (cc e)
 has-not false e = refl
 
-call-last : (call : Call) (calls : List Call) (bound : ℕ) (now : DoorState) (h : Session (call ∷ calls) bound now) (wire : ℕ) →
+-- a call adds no answer about a wire once that was shut, if so it is told of the lanes that move in it
+pub last-of : (call : Call) (calls : List Call) (wire : ℕ) (lanes after : List Lane) → ((x : Lane) → Has lanes x → (y : Lane) × Has after y × Moves call x y) → (Without wire lanes → share wire (answers_in call) ≡ []) →
+    ((x : Lane) → Has lanes x → was_shut_in x.wire (answers_of calls) ≡ not (has_wire x.stage)) →
     ShutLast wire (answers_in call) × (was_shut_in wire (answers_of calls) ≡ true → are_about wire (answers_in call) ≡ false)
-call-last call calls bound now h wire = go (find wire step.lanes) where
-  step : Steps call h.0 bound h.1 now
-  step = steps-in call calls bound now h
-
-  go : Without wire step.lanes ⊎ ((x : Lane) × Has step.lanes x × (x.wire ≡ wire)) → ShutLast wire (answers_in call) × (was_shut_in wire (answers_of calls) ≡ true → are_about wire (answers_in call) ≡ false)
+last-of call calls wire lanes after on off was = go (find wire lanes) where
+  go : Without wire lanes ⊎ ((x : Lane) × Has lanes x × (x.wire ≡ wire)) → ShutLast wire (answers_in call) × (was_shut_in wire (answers_of calls) ≡ true → are_about wire (answers_in call) ≡ false)
   go (inl none) =
-      let empty = (step.off wire none).0 in
+      let empty = off none in
       (last-share wire (answers_in call) (subst (λ (l : List Answer). ShutLast wire l) (sym empty) tt), λ s. about-share wire (answers_in call) ∙ ap (λ l. are_about wire l) empty)
   go (inr found) =
       let x = found.0 in
-      let p = step.on x found.1 in
+      let p = on x found.1 in
       let c = moves-close call x p.0 p.2 in
-      let was = before-come IsClosed new-closed step-closed call calls bound now h x found.1 in
       subst (λ n. ShutLast n (answers_in call) × (was_shut_in n (answers_of calls) ≡ true → are_about n (answers_in call) ≡ false)) found.2 (
         last-share x.wire (answers_in call) c.last,
-        λ s. about-share x.wire (answers_in call) ∙ ap (λ l. are_about x.wire l) (c.none (has-not (has_wire x.stage) (sym was.0 ∙ s))),
+        λ s. about-share x.wire (answers_in call) ∙ ap (λ l. are_about x.wire l) (c.none (has-not (has_wire x.stage) (sym (was x found.1) ∙ s))),
       )
+
+call-last : (call : Call) (calls : List Call) (bound : ℕ) (now : DoorState) (h : Session (call ∷ calls) bound now) (wire : ℕ) →
+    ShutLast wire (answers_in call) × (was_shut_in wire (answers_of calls) ≡ true → are_about wire (answers_in call) ≡ false)
+call-last call calls bound now h wire =
+    let step = steps-in call calls bound now h in
+    last-of call calls wire step.lanes now.lanes step.on (λ none. (step.off wire none).0) (λ x has. (before-come IsClosed new-closed step-closed call calls bound now h x has).0)
 
 all-last : (calls : List Call) (bound : ℕ) (now : DoorState) (wire : ℕ) → Session calls bound now → ShutLast wire (answers_of calls)
 all-last [] bound now wire h = tt
@@ -550,11 +561,11 @@ lost-or-over Lost e = inl refl
 lost-or-over Closing e = absurd (cc e)
 lost-or-over Over e = inr refl
 
-pub shut-for-a-cause : WiresAreShutForACause
-shut-for-a-cause call calls bound now h wire e = go (find wire step.lanes) where
-  step : Steps call h.0 bound h.1 now
-  step = steps-in call calls bound now h
-
+-- a wire that is shut in a call is that of a lane that moved, and is lost, or over and done
+pub cause-of : (told : List Call → Bool) (call : Call) (calls : List Call) (wire : ℕ) (lanes after : List Lane) → was_shut_in wire (answers_in call) ≡ true → ((x : Lane) → Has lanes x → (y : Lane) × Has after y × Moves call x y) →
+    (Without wire lanes → share wire (answers_in call) ≡ []) → ((x y : Lane) → Has lanes x → Moves call x y → x.wire ≡ wire → is_done y.stage ≡ true → told (call ∷ calls) ≡ true) →
+    (lane : Lane) × Contains after lane × (lane.wire ≡ wire) × ((lane.stage ≡ Lost) ⊎ ((lane.stage ≡ Over) × (told (call ∷ calls) ≡ true)))
+cause-of told call calls wire lanes after e on off closed = go (find wire lanes) where
   shared : was_shut_in wire (share wire (answers_in call)) ≡ true
   shared = sym (shut-share wire (answers_in call)) ∙ e
 
@@ -567,21 +578,25 @@ shut-for-a-cause call calls bound now h wire e = go (find wire step.lanes) where
   cause s done (inl l) k = inl l
   cause s done (inr o) k = inr (o, k (ap is_done o))
 
-  go : Without wire step.lanes ⊎ ((x : Lane) × Has step.lanes x × (x.wire ≡ wire)) →
-      (lane : Lane) × Contains now.lanes lane × (lane.wire ≡ wire) × ((lane.stage ≡ Lost) ⊎ ((lane.stage ≡ Over) × (is_done_on wire (call ∷ calls) ≡ true)))
-  go (inl none) = absurd (off-and-on (was_shut_in wire (share wire (answers_in call))) (ap (λ l. was_shut_in wire l) (step.off wire none).0) shared)
+  go : Without wire lanes ⊎ ((x : Lane) × Has lanes x × (x.wire ≡ wire)) →
+      (lane : Lane) × Contains after lane × (lane.wire ≡ wire) × ((lane.stage ≡ Lost) ⊎ ((lane.stage ≡ Over) × (told (call ∷ calls) ≡ true)))
+  go (inl none) = absurd (off-and-on (was_shut_in wire (share wire (answers_in call))) (ap (λ l. was_shut_in wire l) (off none)) shared)
   go (inr found) =
       let x = found.0 in
-      let p = step.on x found.1 in
+      let p = on x found.1 in
       let y = p.0 in
       let c = moves-close call x y p.2 in
       let here : was_shut_in x.wire (share x.wire (answers_in call)) ≡ true = subst (λ n. was_shut_in n (share n (answers_in call)) ≡ true) (sym found.2) shared in
-      let was = before-come IsClosed new-closed step-closed call calls bound now h x found.1 in
-      let closed = closed-here call calls x y (mover-came call calls bound now h x found.1) was p.2 in
       let unwired = ended x.wire x.stage y.stage (share x.wire (answers_in call)) here c.ends in (
         y,
-        contains-of now.lanes y p.1,
+        contains-of after y p.1,
         moves-wire call x y p.2 ∙ found.2,
-        subst (λ n. (y.stage ≡ Lost) ⊎ ((y.stage ≡ Over) × (is_done_on n (call ∷ calls) ≡ true))) found.2
-            (cause y.stage (is_done_on x.wire (call ∷ calls)) (lost-or-over y.stage unwired) closed.1),
+        cause y.stage (told (call ∷ calls)) (lost-or-over y.stage unwired) (closed x y found.1 p.2 found.2),
       )
+
+pub shut-for-a-cause : WiresAreShutForACause
+shut-for-a-cause call calls bound now h wire e =
+    let step = steps-in call calls bound now h in
+    cause-of (is_done_on wire) call calls wire step.lanes now.lanes e step.on (λ none. (step.off wire none).0)
+    (λ x y has m at d. subst (λ n. is_done_on n (call ∷ calls) ≡ true) at
+    ((closed-here call calls x y (mover-came call calls bound now h x has) (before-come IsClosed new-closed step-closed call calls bound now h x has) m).1 d))

@@ -44,9 +44,11 @@ dials-on (Ok answer) a b c text upgrade wire before after t e h same =
     subst (λ w. Told a c (λ answers. Dials text upgrade w before after answers)) (sym e) (connected wire ∷ h.0, tells-more a b c (connected wire ∷ []) h.0 (adds-tells a b (connected wire) t) h.1, (h.0, refl, h.2, same))
 dials-on (Err why) a b c text upgrade wire before after t e h same = e
 
-pub cut-on : {T : Type 0} (r : Result T DoorError) (a b c : Option (List Answer)) (wire : ℕ) → Adds a b (connected wire) → OnErr r (Tells b c (was_shut wire ∷ [])) → OnErr r (Told a c (λ answers. IsCutShort answers))
-cut-on (Ok answer) a b c wire t h = h
-cut-on (Err why) a b c wire t h = (connected wire ∷ was_shut wire ∷ [], tells-more a b c (connected wire ∷ []) (was_shut wire ∷ []) (adds-tells a b (connected wire) t) h, inr (wire, refl))
+pub cut-on : {T : Type 0} (r : Result T DoorError) (a b c : Option (List Answer)) (wire bound bound_after : ℕ) → bound ≤ wire → wire + 1 ≤ bound_after → Adds a b (connected wire) → OnErr r (Tells b c (was_shut wire ∷ [])) →
+    OnErr r (Told a c (λ answers. IsCutShort bound bound_after answers))
+cut-on (Ok answer) a b c wire bound bound_after first next t h = h
+cut-on (Err why) a b c wire bound bound_after first next t h =
+    (connected wire ∷ was_shut wire ∷ [], tells-more a b c (connected wire ∷ []) (was_shut wire ∷ []) (adds-tells a b (connected wire) t) h, inr (wire, refl, (first, next)))
 
 pub dials-nowhere : (a b : Option (List Answer)) (text : List ℕ) (upgrade : Option Upgrade) (before after : DoorState) → Adds a b connect_failed → after ≡ before → Told a b (λ answers. Dials text upgrade None before after answers)
 dials-nowhere a b text upgrade before after t same =
@@ -119,16 +121,16 @@ pub same-state : {W : Type 0} (old new : NetDialer W) → state_of new.reactor �
 same-state old new ed en ef el = state-parts (dialer_state_of old) (state_of new.reactor) new.numbers new.failed new.last en ef el ∙ ap (λ (d : DoorState). record (dialer_state_of old) { door = d }) ed
 
 pub unasked-goes : {W : Type 0} (trace : W → Option (List Answer)) (bound faults : W → ℕ) (place : ℕ) (method : Method) (target : List ℕ) (upgrade : Option Upgrade) (r : Result ℕ DoorError) (old new : NetDialer W) → r ≡ Err NoMemory →
-    Told (trace old.reactor.wires) (trace new.reactor.wires) (λ answers. IsCutShort answers) → dialer_state_of new ≡ dialer_state_of old → new.addresses ≡ old.addresses → bound old.reactor.wires ≤ bound new.reactor.wires →
+    Told (trace old.reactor.wires) (trace new.reactor.wires) (λ answers. IsCutShort (bound old.reactor.wires) (bound new.reactor.wires) answers) → dialer_state_of new ≡ dialer_state_of old → new.addresses ≡ old.addresses →
     new.reactor.gathering ≡ old.reactor.gathering →
     (is_said : Bool) × (unanswered : ℕ) × Chain (CallsDialed trace bound faults) old (asked_call place method target upgrade unanswered is_said r ∷ []) new
-unasked-goes trace bound faults place method target upgrade (Ok lane) old new e h same addresses le gathering = absurd (cc e)
-unasked-goes trace bound faults place method target upgrade (Err Failed) old new e h same addresses le gathering = absurd (cc e)
-unasked-goes trace bound faults place method target upgrade (Err NoMemory) old new e h same addresses le gathering = (false, 0, (new, (h.0, h.1, addresses, (same, h.2, le, gathering)), refl))
+unasked-goes trace bound faults place method target upgrade (Ok lane) old new e h same addresses gathering = absurd (cc e)
+unasked-goes trace bound faults place method target upgrade (Err Failed) old new e h same addresses gathering = absurd (cc e)
+unasked-goes trace bound faults place method target upgrade (Err NoMemory) old new e h same addresses gathering = (false, 0, (new, (h.0, h.1, addresses, (same, h.2, gathering)), refl))
 
 -- an ask for which nothing was begun
-pub nothing-told : (a : Option (List Answer)) → Told a a (λ answers. IsCutShort answers)
-nothing-told a = ([], tells-none a, inl refl)
+pub nothing-told : (a : Option (List Answer)) (bound : ℕ) → Told a a (λ answers. IsCutShort bound bound answers)
+nothing-told a bound = ([], tells-none a, inl (refl, refl))
 
 -- ---- what is heard
 

@@ -199,7 +199,7 @@ at-full wire Does x y mine each h = go (x.wire == wire) h where
 -- ---- sessions
 
 -- a live lane is as full as was told
-abbrev IsTold : List Call → Lane → Type 0
+abbrev pub IsTold : List Call → Lane → Type 0
 IsTold calls lane = is_live lane.stage ≡ true → is_some lane.full ≡ was_full_on lane.wire calls
 
 told-still : (calls : List Call) (x y : Lane) → IsTold calls x → FullAfter x y false → is_live y.stage ≡ true → is_some y.full ≡ was_full_on x.wire calls
@@ -222,7 +222,7 @@ told-here (session.shut at answers) calls x y k h live =
 told-here (session.wrote at answers) calls x y k h live =
     told-still calls x y k (lives-full x y false (bystander-live 0 x y (share x.wire answers) h) (bystander-full 0 x y (share x.wire answers) h) refl) live
 
-step-told : (call : Call) (calls : List Call) (x y : Lane) → IsTold calls x → Moves call x y → IsTold (call ∷ calls) y
+pub step-told : (call : Call) (calls : List Call) (x y : Lane) → IsTold calls x → Moves call x y → IsTold (call ∷ calls) y
 step-told call calls x y k h live = told-here call calls x y k h live ∙ ap (λ n. was_full_on n (call ∷ calls)) (sym (moves-wire call x y h))
 
 new-told : (calls : List Call) (now wire : ℕ) → IsUntouched wire calls → IsTold calls (new_lane now wire)
@@ -235,7 +235,7 @@ fullness-is-told calls bound now h lane has live =
 -- ---- a lane that is heard as drained
 
 -- it is live, and full
-abbrev WasFull : Lane → Type 0
+abbrev pub WasFull : Lane → Type 0
 WasFull x = (is_live x.stage ≡ true) × (is_some x.full ≡ true)
 
 drained-full : (live full little : Bool) → (live && (full && little)) ≡ true → (live ≡ true) × (full ≡ true)
@@ -258,7 +258,7 @@ listens-drained now x y mine own drained h = go x.stage h where
   go Closing h = never (ap (λ o. is_drained_in x.wire o) h.0)
   go Over h = never (ap (λ o. is_drained_in x.wire o) h.1)
 
-heeds-drained : (now : ℕ) (what : Event) (x y : Lane) (mine : List Answer) → what ≡ event.Drained x.wire → Heeds now what x y mine → WasFull x
+pub heeds-drained : (now : ℕ) (what : Event) (x y : Lane) (mine : List Answer) → what ≡ event.Drained x.wire → Heeds now what x y mine → WasFull x
 heeds-drained now what x y mine e (inl h) =
     listens-drained now x y mine h.0 (sym (heard-drained x.wire h.0 what h.2) ∙ ap (λ v. is_drained_on x.wire v) e ∙ same x.wire) h.1
 heeds-drained now what x y mine e (inr h) = absurd (off-and-on (is_on x.wire what) h.1 (ap (λ v. is_on x.wire v) e ∙ same x.wire))

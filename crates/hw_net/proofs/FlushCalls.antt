@@ -1,9 +1,10 @@
 -- In a session a flush is calls, each of which writes what waits on one lane.
-use Rattle.std.proofs.Common.{◌≡◌, ◌==◌, ◌++◌, ◌∷◌, [], ℕ, Bool, true, false, not, cond, List, refl, sym, ap, ◌∙◌, subst, inl, inr, append_assoc, append-nil, option_to_list}
+use Rattle.std.proofs.Common.{◌≡◌, ◌==◌, ◌++◌, ◌∷◌, [], ℕ, Bool, true, false, not, cond, List, refl, sym, ap, ◌∙◌, subst, inl, inr, append_assoc, append-nil, map, option_to_list}
+use Rattle.std.proofs.lemmas.List.{map-append}
 use Rattle.hw_door.specs.Traffic.{Answer}
 use Rattle.hw_net.specs.declared.protocol.Stage.{Stage}
 use Rattle.hw_net.specs.declared.protocol.Stage.TheVariants.{Live, Lost, Closing, Over}
-use Rattle.hw_net.specs.Door.{DoorState, HearsNext, kept}
+use Rattle.hw_net.specs.Door.{DoesAt, DoorState, HearsNext, kept}
 use Rattle.hw_net.specs.Flushing.{Gathers, WriteEach}
 use Rattle.hw_net.specs.Lane.{Lane, wires_of, is_over, after_end}
 use Rattle.hw_net.specs.Saying.{WritesOut, WritesIfLive, WritesIfLiveAt}
@@ -64,28 +65,43 @@ abbrev Calls : List Call → ℕ → DoorState → List Answer → Type 0
 Calls calls bound after answers =
     (writes : List Call) × AreWrites writes × Session (writes ++ calls) bound after × (answers_of (writes ++ calls) ≡ answers_of calls ++ answers)
 
-writes-more : (writes : List Call) (wire : ℕ) (answers : List Answer) → AreWrites writes → AreWrites (writes ++ wrote wire answers ∷ [])
-writes-more [] wire answers h = tt
-writes-more (wrote at said ∷ writes) wire answers h = writes-more writes wire answers h
-writes-more (_ ∷ writes) wire answers h = absurd h
+-- writes on wires, each with what the wires answered in it, as calls of a kind
+abbrev pub Writes : Type 0
+Writes = ℕ × List Answer
+
+abbrev pub written : {C : Type 0} → (ℕ → List Answer → C) → List Writes → List C
+written write writes = map (λ (one : Writes). write one.0 one.1) writes
+
+-- lanes that write one after the other do so in calls of such a session, if one lane does in one call
+pub each-writes : {C : Type 0} (In : List C → DoorState → Type 0) (write : ℕ → List Answer → C) (answers_of : List C → List Answer) →
+    ((wire : ℕ) (answers : List Answer) (calls : List C) → answers_of (write wire answers ∷ calls) ≡ answers_of calls ++ answers) →
+    ((calls : List C) (before after : DoorState) (wire : ℕ) (answers : List Answer) → In calls before → DoesAt wire WritesIfLive before after answers → In (write wire answers ∷ calls) after) →
+    (wires : List ℕ) (calls : List C) (before : DoorState) (lanes : List Lane) (answers : List Answer) → In calls before → WriteEach wires before.lanes lanes answers →
+    (writes : List Writes) × In (written write writes ++ calls) (record before { lanes = lanes }) × (answers_of (written write writes ++ calls) ≡ answers_of calls ++ answers)
+each-writes In write answers_of more goes [] calls before lanes answers s h = (
+  [],
+  subst (λ (l : List Lane). In calls (record before { lanes = l })) (sym h.0) s,
+  sym (append-nil (answers_of calls)) ∙ ap (λ l. answers_of calls ++ l) (sym h.1),
+)
+each-writes {C} In write answers_of more goes (wire ∷ wires) calls before lanes answers s h =
+    let call : C = write wire h.1 in
+    let again = each-writes In write answers_of more goes wires (call ∷ calls) (record before { lanes = h.0 }) lanes h.2 (goes calls before (record before { lanes = h.0 }) wire h.1 s (h.4, refl, refl, refl)) h.5 in
+    let joined : written write (again.0 ++ (wire, h.1) ∷ []) ++ calls ≡ written write again.0 ++ call ∷ calls =
+    ap (λ l. l ++ calls) (map-append (λ (one : Writes). write one.0 one.1) again.0 ((wire, h.1) ∷ [])) ∙ append_assoc (written write again.0) (call ∷ []) calls in (
+      again.0 ++ (wire, h.1) ∷ [],
+      subst (λ (l : List C). In l (record before { lanes = lanes })) (sym joined) again.1,
+      ap answers_of joined ∙ again.2 ∙ ap (λ l. l ++ h.2) (more wire h.1 calls) ∙ append_assoc (answers_of calls) h.1 h.2 ∙ ap (λ l. answers_of calls ++ l) (sym h.3),
+    )
+
+are-writes : (writes : List Writes) → AreWrites (written wrote writes)
+are-writes [] = tt
+are-writes (one ∷ writes) = are-writes writes
 
 each-calls : (wires : List ℕ) (calls : List Call) (bound : ℕ) (before : DoorState) (lanes : List Lane) (answers : List Answer) → Session calls bound before → WriteEach wires before.lanes lanes answers →
     Calls calls bound (record before { lanes = lanes }) answers
-each-calls [] calls bound before lanes answers s h = (
-  [],
-  tt,
-  subst (λ (l : List Lane). Session calls bound (record before { lanes = l })) (sym h.0) s,
-  sym (append-nil (answers_of calls)) ∙ ap (λ l. answers_of calls ++ l) (sym h.1),
-)
-each-calls (wire ∷ wires) calls bound before lanes answers s h =
-    let call = wrote wire h.1 in
-    let again = each-calls wires (call ∷ calls) bound (record before { lanes = h.0 }) lanes h.2 (bound, before, s, ((h.4, refl, refl, refl), refl)) h.5 in
-    let joined : (again.0 ++ call ∷ []) ++ calls ≡ again.0 ++ call ∷ calls = append_assoc again.0 (call ∷ []) calls in (
-      again.0 ++ call ∷ [],
-      writes-more again.0 wire h.1 again.1,
-      subst (λ (l : List Call). Session l bound (record before { lanes = lanes })) (sym joined) again.2,
-      ap answers_of joined ∙ again.3 ∙ append_assoc (answers_of calls) h.1 h.2 ∙ ap (λ l. answers_of calls ++ l) (sym h.3),
-    )
+each-calls wires calls bound before lanes answers s h =
+    let k = each-writes (λ all (d : DoorState). Session all bound d) wrote answers_of (λ wire said all. refl) (λ all first last wire said t d. (bound, first, t, (d, refl))) wires calls before lanes answers s h in
+    (written wrote k.0, are-writes k.0, k.1, k.2)
 
 pub flushes-are-calls : FlushesAreCalls
 flushes-are-calls calls bound before after answers s h =

@@ -1,6 +1,5 @@
 -- In a session a WebSocket's lane is live exactly as long as it went on by its calls.
 use Rattle.std.proofs.Common.{◌≡◌, ◌⊎◌, ◌==◌, ◌&&◌, ◌||◌, ◌∷◌, [], ℕ, Bool, true, false, not, List, refl, sym, ap, ◌∙◌, inl, inr}
-use Rattle.hw_lanes.specs.declared.http.Reply.{Reply}
 use Rattle.hw_door.specs.Traffic.{Answer}
 use Rattle.hw_net.specs.declared.protocol.Stage.{Stage}
 use Rattle.hw_net.specs.declared.protocol.Stage.TheVariants.{Live, Lost, Closing, Over}
@@ -15,10 +14,10 @@ use Rattle.hw_net.specs.Turn.{Replies, Sends, Shuts}
 use Rattle.hw_net.specs.Lane.{after_reply}
 use Rattle.hw_net.proofs.Awaiting.{bystander-speech, heeds-speech, heeds-stands, replies-were-live, same-speech, sends-speech, shuts-speech}
 use Rattle.hw_net.proofs.Closings.{Closes, ends_by, is_done, live-has, moves-close}
-use Rattle.hw_net.proofs.Counting.{hears_no_request, bystander-live, same-lives, sends-live, writes-live}
+use Rattle.hw_net.proofs.Counting.{hears_no_request, bystander-live, sends-live, writes-live}
 use Rattle.hw_net.proofs.Owed.{IsOwed, by-number}
 use Rattle.hw_net.proofs.Shares.{share, shut-share}
-use Rattle.hw_net.proofs.Walks.{Moves, moves-wire, IsUntouched}
+use Rattle.hw_net.proofs.Walks.{Moves, moves-wire}
 
 clash : (b : Bool) → b ≡ true → b ≡ false → ⊥
 clash b e f = let z : true ≡ false = sym e ∙ f in cc z

@@ -44,3 +44,9 @@ pub mod Gathering
 pub mod LaneNumbering
 pub mod Dialing
 pub mod DialerNumbering
+pub mod DialerWalks
+pub mod DialerChaining
+pub mod DialerVoices
+pub mod DialerEnds
+pub mod DialerLanes
+pub mod DialerResponses

@@ -48,7 +48,7 @@ is_lost Lost = true
 is_lost Closing = false
 is_lost Over = false
 
-unlost : {A : Type 0} (s t : Stage) → s ≡ t → is_lost t ≡ false → s ≡ Lost → A
+pub unlost : {A : Type 0} (s t : Stage) → s ≡ t → is_lost t ≡ false → s ≡ Lost → A
 unlost s t e f g = absurd (cc (sym f ∙ sym (ap is_lost e) ∙ ap is_lost g))
 
 has-unlost : (s : Stage) → has_wire s ≡ true → is_lost s ≡ false
@@ -243,10 +243,10 @@ broke-now wire calls call e = broke-more wire calls call ∙ ap (λ b. broke_in 
 broke-before : (wire : ℕ) (calls : List Call) (call : Call) → broke_in wire (answers_of calls) ≡ true → broke_in wire (answers_of (call ∷ calls)) ≡ true
 broke-before wire calls call e = broke-more wire calls call ∙ ap (λ b. b || broke_in wire (share wire (answers_in call))) e
 
-abbrev IsCaused : List Call → Lane → Type 0
+abbrev pub IsCaused : List Call → Lane → Type 0
 IsCaused calls lane = lane.stage ≡ Lost → Cause lane.wire (answers_of calls) lane
 
-step-caused : (call : Call) (calls : List Call) (x y : Lane) → IsCaused calls x → Moves call x y → IsCaused (call ∷ calls) y
+pub step-caused : (call : Call) (calls : List Call) (x y : Lane) → IsCaused calls x → Moves call x y → IsCaused (call ∷ calls) y
 step-caused call calls x y k h lost = subst (λ n. Cause n (answers_of (call ∷ calls)) y) (sym (moves-wire call x y h)) (go (moves-break call x y h lost)) where
   before : Cause x.wire (answers_of calls) x → y ≡ x → Cause x.wire (answers_of (call ∷ calls)) y
   before (inl e) f = inl (broke-before x.wire calls call e)
@@ -278,7 +278,7 @@ is_loss (Some (event.Lost at)) = true
 is_loss _ = false
 
 -- the wire is shut, so the lane says nothing more
-over-said : (now : ℕ) (after said y : Lane) (written : List Answer) → after.stage ≡ Over → Says now after said written → y ≡ said → y ≡ after
+pub over-said : (now : ℕ) (after said y : Lane) (written : List Answer) → after.stage ≡ Over → Says now after said written → y ≡ said → y ≡ after
 over-said now after said y written o s last = go after.stage o s where
   go : (t : Stage) → t ≡ Over → SaysAt t now after said written → y ≡ after
   go Live f k = absurd (cc f)
@@ -390,7 +390,7 @@ listens-loss now x y mine own loss h = go x.stage refl h where
   go Closing e h = never h.0
   go Over e h = never h.1
 
-heeds-loss : (now : ℕ) (what : Event) (x y : Lane) (mine : List Answer) → what ≡ event.Lost x.wire → Heeds now what x y mine → Heard-loss now x y mine
+pub heeds-loss : (now : ℕ) (what : Event) (x y : Lane) (mine : List Answer) → what ≡ event.Lost x.wire → Heeds now what x y mine → Heard-loss now x y mine
 heeds-loss now what x y mine e (inl h) = go h.0 h.1 h.2 where
   go : (own : Option Event) → Listens now x y mine own → IsHeard x.wire own what → Heard-loss now x y mine
   go None l is = absurd (off-and-on (is_on x.wire what) is (ap (λ v. is_on x.wire v) e ∙ same x.wire))
@@ -404,7 +404,7 @@ new-protocol bound x bytes n h = go (subst (λ (l : Lane). IsGone bytes l.protoc
   go (inl e) = e
   go (inr e) = e
 
-loss-cause : (now : ℕ) (what : Heard) (answers : List Answer) (calls : List Call) (x y : Lane) (before after : List Lane) (bound : ℕ) → Has after y → y.wire ≡ x.wire → Has before x ⊎ IsNew bound x → IsCaused calls x →
+pub loss-cause : (now : ℕ) (what : Heard) (answers : List Answer) (calls : List Call) (x y : Lane) (before after : List Lane) (bound : ℕ) → Has after y → y.wire ≡ x.wire → Has before x ⊎ IsNew bound x → IsCaused calls x →
     Heard-loss now x y (share x.wire answers) →
     ((lane : Lane) × Contains after lane × (lane.wire ≡ x.wire) × IsLostRightly now (answers_of (session.heard what answers ∷ calls)) lane)
     ⊎ ((lane : Lane) × Contains before lane × (lane.wire ≡ x.wire) × (IsGone (read_on x.wire answers) lane.protocol ⊎ IsSpoiled lane.protocol))

@@ -8,7 +8,6 @@ use Rattle.hw_door.specs.Traffic.{Answer}
 use Rattle.hw_socket.specs.Sending.{Sent}
 use Rattle.hw_net.specs.declared.protocol.Protocol.{Protocol}
 use Rattle.hw_net.specs.declared.protocol.Protocol.TheVariants.{Http, Response, Socket}
-use Rattle.hw_net.specs.declared.protocol.Stage.{Stage}
 use Rattle.hw_net.specs.Awaited.{is_lost_on, awaits_on, AreAwaited, given_on, refusals_on, given_since, GivesFirst, RepliesAreSaid}
 use Rattle.hw_net.specs.Door.{new_lane}
 use Rattle.hw_net.specs.Lane.{Lane, is_live, is_busy, owes, after_reply, refusal_of}
@@ -17,8 +16,8 @@ use Rattle.hw_net.specs.Sessions as session
 use Rattle.hw_net.specs.Sessions.{Call, is_end_on, is_owed_on, is_request_on, refusal_on, replies_on, request_on, requests_on, goes_on, sent_on}
 use Rattle.hw_net.specs.Trace.{Chooses}
 use Rattle.hw_net.specs.Turn.{Replies, Sends, Shuts}
-use Rattle.hw_net.proofs.Awaiting.{IsAsKnown, Speaks, bystander-speech, end-lost, heeds-speech, heeds-stands, new-known, no-parts, same-speech, sends-speech, shuts-speech, step-known}
-use Rattle.hw_net.proofs.Counting.{hears_no_request, Lives, IsFree, bystander-live, heeds-free, live-busy, same-lives, sends-live, shuts-live}
+use Rattle.hw_net.proofs.Awaiting.{IsAsKnown, Speaks, bystander-speech, heeds-speech, heeds-stands, new-known, no-parts, sends-speech, shuts-speech, step-known}
+use Rattle.hw_net.proofs.Counting.{hears_no_request, Lives, IsFree, bystander-live, heeds-free, sends-live, shuts-live}
 use Rattle.hw_net.proofs.Lasting.{IsLasting, new-lasting, step-lasting}
 use Rattle.hw_net.proofs.Moves.{has-of}
 use Rattle.hw_net.proofs.Owed.{IsOwed, by-number, new-owed, step-owed}

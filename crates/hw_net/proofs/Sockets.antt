@@ -557,7 +557,7 @@ heeds-bear now what x y mine (inr h) =
 
 -- a lane of requests that upgrades carries a WebSocket that was fed with what it held
 upgraded : (x : Lane) (http_state : HttpStateView) (reply : Reply) (from written : List ℕ) (requests : List Request) (messages : List (List ℕ)) (sent : List Sent) (replies : List Reply) → Asks from requests http_state.lane.held →
-    Voiced (written ++ (x.out ++ [])) replies (Http http_state) → messages ≡ [] →
+    Voiced None (written ++ (x.out ++ [])) replies (Http http_state) → messages ≡ [] →
     IsCarried (is_live x.stage) from (written ++ ((x.out ++ reply_text reply) ++ [])) requests messages [] (replies ++ reply ∷ []) (record (socket.fresh_lane side.Server) { unread = http_state.lane.held })
 upgraded x http_state reply from written requests messages sent replies asks wrote none = record {
   calls = socket_calls.Feed http_state.lane.held ∷ [];
@@ -585,9 +585,9 @@ upgraded x http_state reply from written requests messages sent replies asks wro
 
 -- a lane that owes a reply says it
 reply-borne : (now : ℕ) (reply : Reply) (x : Lane) (from written : List ℕ) (requests : List Request) (messages : List (List ℕ)) (sent : List Sent) (replies : List Reply) → owes x ≡ true →
-    HeardIn from requests x.protocol → Voiced (written ++ waits x) replies x.protocol → IsBorne from written requests messages sent replies x → IsBorne from written requests messages [] (replies ++ reply ∷ []) (after_reply now reply x)
+    HeardIn from requests x.protocol → Voiced None (written ++ waits x) replies x.protocol → IsBorne from written requests messages sent replies x → IsBorne from written requests messages [] (replies ++ reply ∷ []) (after_reply now reply x)
 reply-borne now reply x from written requests messages sent replies owed asks wrote b = go x.protocol refl owed asks wrote b where
-  http : (http_state : HttpStateView) → x.protocol ≡ Http http_state → Asks from requests http_state.lane.held → Voiced (written ++ (x.out ++ [])) replies (Http http_state) → messages ≡ [] → (b : Bool) →
+  http : (http_state : HttpStateView) → x.protocol ≡ Http http_state → Asks from requests http_state.lane.held → Voiced None (written ++ (x.out ++ [])) replies (Http http_state) → messages ≡ [] → (b : Bool) →
       IsBorne from written requests messages [] (replies ++ reply ∷ []) (if b then record x { protocol = new_socket (rest_of x.protocol); out = x.out ++ reply_text reply }
       else record x { protocol = protocol_after_reply x.protocol; out = x.out ++ reply_text reply; since = now })
   http http_state e asks wrote none true =
@@ -596,14 +596,14 @@ reply-borne now reply x from written requests messages sent replies owed asks wr
   http http_state e asks wrote none false =
       subst (λ (t : Protocol). IsBorne from written requests messages [] (replies ++ reply ∷ []) (record x { protocol = protocol_after_reply t; out = x.out ++ reply_text reply; since = now })) (sym e) none
 
-  go : (protocol : Protocol) → x.protocol ≡ protocol → (is_live x.stage && is_busy protocol) ≡ true → HeardIn from requests protocol → Voiced (written ++ (x.out ++ frames_of protocol)) replies protocol →
+  go : (protocol : Protocol) → x.protocol ≡ protocol → (is_live x.stage && is_busy protocol) ≡ true → HeardIn from requests protocol → Voiced None (written ++ (x.out ++ frames_of protocol)) replies protocol →
       Borne (is_live x.stage) from (written ++ (x.out ++ frames_of protocol)) requests messages sent replies protocol → IsBorne from written requests messages [] (replies ++ reply ∷ []) (after_reply now reply x)
   go (Http http_state) e owed asks wrote b = http http_state e asks wrote b (reply.status == SWITCHING)
   go (Response response_state) e owed asks wrote b = absurd b
   go (Socket websocket_state) e owed asks wrote b = absurd (cc (sym (dead x.stage) ∙ owed))
 
 replies-borne : (now : ℕ) (reply : Reply) (x y : Lane) (mine : List Answer) (from written : List ℕ) (requests : List Request) (messages : List (List ℕ)) (sent : List Sent) (replies : List Reply) → Replies now reply x y mine →
-    HeardIn from requests x.protocol → Voiced (written ++ waits x) replies x.protocol → IsBorne from written requests messages sent replies x →
+    HeardIn from requests x.protocol → Voiced None (written ++ waits x) replies x.protocol → IsBorne from written requests messages sent replies x →
     IsBorne from (written ++ written_on x.wire mine) requests messages (if owes x then [] else sent) (replies ++ (if owes x then reply ∷ [] else [])) y
 replies-borne now reply x y mine from written requests messages sent replies h asks wrote b = go (owes x) refl h where
   go : (c : Bool) → owes x ≡ c → Chooses c (SaysMore (after_reply now reply x) y mine) ((mine ≡ []) × (y ≡ x)) → IsBorne from (written ++ written_on x.wire mine) requests messages (if c then [] else sent) (replies ++ (if c then reply ∷ [] else [])) y
@@ -720,7 +720,7 @@ widened bytes from written requests messages sent replies y e k =
     (subst (λ (l : List Request). IsBorne from written l (messages ++ []) sent replies y) (sym (append-nil requests))
     (subst (λ (l : List (List ℕ)). IsBorne from written requests l sent replies y) (sym (append-nil messages)) k))
 
-moves-bear : (goes : Bool) (call : Call) (x y : Lane) (from written : List ℕ) (requests : List Request) (messages : List (List ℕ)) (sent : List Sent) (replies : List Reply) → (hears_no_request x.protocol ≡ true → is_live x.stage ≡ goes) → Moves call x y → HeardIn from requests x.protocol → Voiced (written ++ waits x) replies x.protocol →
+moves-bear : (goes : Bool) (call : Call) (x y : Lane) (from written : List ℕ) (requests : List Request) (messages : List (List ℕ)) (sent : List Sent) (replies : List Reply) → (hears_no_request x.protocol ≡ true → is_live x.stage ≡ goes) → Moves call x y → HeardIn from requests x.protocol → Voiced None (written ++ waits x) replies x.protocol →
     IsBorne from written requests messages sent replies x →
     BearsAt x y (share x.wire (answers_in call)) from written requests messages (sent_by x.wire (owes x) goes call sent) replies (requests_by x.wire call) (messages_by x.wire call) (replies_by x.wire (owes x) call)
 moves-bear goes (session.heard what answers) x y from written requests messages sent replies r h asks wrote b = heeds-bear what.now what.event x y (share x.wire answers) h from written requests messages sent replies b

@@ -5,6 +5,7 @@ use Rattle.hw_door.specs.declared.heard.Event.{Event}
 use Rattle.hw_door.specs.declared.heard.Event.TheVariants as event
 use Rattle.hw_door.specs.declared.heard.Heard.{Heard}
 use Rattle.hw_door.specs.Traffic.{Answer, polled, accepted}
+use Rattle.hw_net.specs.DialerSessions.{is_answer_on, is_answered_on}
 use Rattle.hw_net.specs.Door.{DoorState, HearsNext, IsNumbered, kept, time_to_wait, with_accepted, new_lane, is_full_at}
 use Rattle.hw_net.specs.Lane.{Lane, wires_of, refusal_of, is_full, is_over}
 use Rattle.hw_net.specs.Rising.{IsRising}
@@ -293,6 +294,16 @@ unheard wire (event.Lost at) h = refl
 unheard wire (event.Drained at) h = refl
 unheard wire event.Quiet h = refl
 
+pub unanswered : (wire : ℕ) (what : Event) → is_on wire what ≡ false → is_answer_on wire what ≡ false
+unanswered wire (event.Request at request) h = refl
+unanswered wire (event.Refused at refusal) h = refl
+unanswered wire (event.Bytes at bytes) h = refl
+unanswered wire (event.Response at status body) h = h
+unanswered wire (event.Upgraded at) h = h
+unanswered wire (event.Lost at) h = refl
+unanswered wire (event.Drained at) h = refl
+unanswered wire event.Quiet h = refl
+
 -- nothing was heard or said on a lane, and its wire wasn't called
 pub record IsUntouched (wire : ℕ) (calls : List Call) : Type 0 where
   pub answers : share wire (answers_of calls) ≡ []
@@ -301,6 +312,7 @@ pub record IsUntouched (wire : ℕ) (calls : List Call) : Type 0 where
   pub replies : replies_on wire calls ≡ []
   pub owed : is_owed_on wire calls ≡ false
   pub full : was_full_on wire calls ≡ false
+  pub answered : is_answered_on wire calls ≡ false
 
 and-false : (a : Bool) → (a && false) ≡ false
 and-false true = refl
@@ -351,20 +363,32 @@ untouched-full wire (sent at bytes text full answers) calls off e = go (at == wi
 untouched-full wire (shut at answers) calls off e = e
 untouched-full wire (wrote at answers) calls off e = e
 
+untouched-answered : (wire : ℕ) (call : Call) (calls : List Call) → IsElsewhere wire call → is_answered_on wire calls ≡ false → is_answered_on wire (call ∷ calls) ≡ false
+untouched-answered wire (heard what answers) calls off e = ap (λ b. b || is_answered_on wire calls) (unanswered wire what.event off) ∙ e
+untouched-answered wire (replied at reply answers) calls off e = e
+untouched-answered wire (sent at bytes text full answers) calls off e = e
+untouched-answered wire (shut at answers) calls off e = e
+untouched-answered wire (wrote at answers) calls off e = e
+
+-- nor is it in a call elsewhere
+pub untouched-more : (wire : ℕ) (call : Call) (calls : List Call) → share wire (answers_in call) ≡ [] → IsElsewhere wire call → IsUntouched wire calls → IsUntouched wire (call ∷ calls)
+untouched-more wire call calls none off before = record {
+  answers = share-append wire (answers_of calls) (answers_in call) ∙ joined (share wire (answers_of calls)) (share wire (answers_in call)) before.answers none;
+  requests = untouched-requests wire call calls off before.requests;
+  messages = untouched-messages wire call calls off before.messages;
+  replies = untouched-replies wire call calls off before.owed before.replies;
+  owed = untouched-owed wire call calls off before.owed;
+  full = untouched-full wire call calls off before.full;
+  answered = untouched-answered wire call calls off before.answered;
+}
+
 pub untouched : (calls : List Call) (bound : ℕ) (now : DoorState) (wire : ℕ) → Session calls bound now → bound ≤ wire → IsUntouched wire calls
-untouched [] bound now wire h le = record { answers = refl; requests = refl; messages = refl; replies = refl; owed = refl; full = refl }
+untouched [] bound now wire h le = record { answers = refl; requests = refl; messages = refl; replies = refl; owed = refl; full = refl; answered = refl }
 untouched (call ∷ calls) bound now wire h le =
     let step = steps-in call calls bound now h in
     let before = untouched calls h.0 h.1 wire h.2 (omega (arith, step.bounds, le)) in
     let off = step.off wire (rising-without 0 bound step.lanes wire step.rise le) in
-    record {
-      answers = share-append wire (answers_of calls) (answers_in call) ∙ joined (share wire (answers_of calls)) (share wire (answers_in call)) before.answers off.0;
-      requests = untouched-requests wire call calls off.1 before.requests;
-      messages = untouched-messages wire call calls off.1 before.messages;
-      replies = untouched-replies wire call calls off.1 before.owed before.replies;
-      owed = untouched-owed wire call calls off.1 before.owed;
-      full = untouched-full wire call calls off.1 before.full;
-    }
+    untouched-more wire call calls off.0 off.1 before
 
 -- ---- all lanes
 

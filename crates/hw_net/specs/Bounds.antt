@@ -1,5 +1,5 @@
 -- How much may wait on the lanes of a door, and for how long on those that close.
-use Rattle.std.specs.Prelude.{◌≡◌, ◌≤◌, ◌<◌, ◌-◌, ℕ, Bool, true, false, List, [], ◌∷◌, length, ⊤}
+use Rattle.std.specs.Prelude.{◌≡◌, ◌≤◌, ◌<◌, ◌-◌, ◌&&◌, nat_lt, ℕ, Bool, true, false, List, [], ◌∷◌, length, ⊤}
 use Rattle.hw_lanes.specs.declared.http.Reply.{Reply}
 use Rattle.hw_door.specs.declared.heard.Heard.{Heard}
 use Rattle.hw_door.specs.Traffic.{Answer}
@@ -18,6 +18,10 @@ has_wire Live = true
 has_wire Lost = false
 has_wire Closing = true
 has_wire Over = false
+
+-- something waits to be written on a lane whose wire wasn't shut
+abbrev pub is_unwritten : Lane → Bool
+is_unwritten lane = has_wire lane.stage && nat_lt 0 (length (waits lane))
 
 -- no more waits on a lane than may, unless its wire was shut
 abbrev pub IsWithin : Lane → Type 0

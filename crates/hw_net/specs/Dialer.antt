@@ -73,9 +73,10 @@ Asks address method target upgrade is_said bound bound_after before after answer
     (wire : Option ℕ) × Reaches address method target upgrade wire before.door after.door answers × (is_said ≡ is_some wire) × IsNewWire bound bound_after wire
     × (after ≡ after_dial wire (record before { door = after.door }))
 
--- an ask that memory cuts short: a connection that was begun is ended
-abbrev pub IsCutShort : List Answer → Type 0
-IsCutShort answers = (answers ≡ []) ⊎ ((wire : ℕ) × (answers ≡ connected wire ∷ was_shut wire ∷ []))
+-- an ask that memory cuts short: a connection that was begun is ended, whose wire is a new one
+abbrev pub IsCutShort : ℕ → ℕ → List Answer → Type 0
+IsCutShort bound bound_after answers =
+    ((answers ≡ []) × (bound_after ≡ bound)) ⊎ ((wire : ℕ) × (answers ≡ connected wire ∷ was_shut wire ∷ []) × IsNewWire bound bound_after (Some wire))
 
 -- ---- what is said on a lane
 

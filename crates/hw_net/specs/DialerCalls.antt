@@ -1,5 +1,5 @@
 -- The calls of a dialer over wires, each as a step from one state to another.
-use Rattle.std.specs.Prelude.{◌≡◌, ◌+◌, ◌≤◌, ℕ, true, List, [], Option, slice_get}
+use Rattle.std.specs.Prelude.{◌≡◌, ◌+◌, ℕ, true, List, [], Option, slice_get}
 use Rattle.hd_facts.specs.Counts.{Rose}
 use Rattle.hw_door.specs.declared.error.DoorError.TheVariants as error
 use Rattle.hw_door.specs.declared.heard.Given.TheVariants as say
@@ -49,7 +49,7 @@ MakesDialed bound faults (door.failed (door.to_hear wait) error.NoMemory) before
     (gathering : ℕ) × GathersThen (ThenFlushes HaltsDialed (dialer_state_of after)) (patience wait before.failed) before.reactor.gathering (dialer_state_of before) answers gathering
     × IsBoundSame bound before after × (after.reactor.gathering ≡ 0)
 MakesDialed bound faults (door.failed (door.to_say (say.Ask lane place method target upgrade)) error.NoMemory) before after answers =
-    (dialer_state_of after ≡ dialer_state_of before) × IsCutShort answers × (bound before.reactor.wires ≤ bound after.reactor.wires)
+    (dialer_state_of after ≡ dialer_state_of before) × IsCutShort (bound before.reactor.wires) (bound after.reactor.wires) answers
     × (after.reactor.gathering ≡ before.reactor.gathering)
 MakesDialed bound faults (door.failed (door.to_say what) error.NoMemory) before after answers =
     (dialer_state_of after ≡ dialer_state_of before) × (answers ≡ []) × IsSteady bound before after

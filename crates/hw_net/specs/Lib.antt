@@ -28,5 +28,7 @@ pub mod Asking
 pub mod Dialer
 pub mod DialerCalls
 pub mod DialerNumbers
+pub mod DialerSessions
+pub mod DialerChains
 pub mod Awaited
 pub mod Reaching

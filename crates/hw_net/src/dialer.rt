@@ -1,6 +1,7 @@
 //! The dialer: what is asked on new lanes, and what comes of it.
 
 ghost use Rattle.std.specs.Prelude.{◌≡◌, ◌≢◌, ◌+◌, ◌≤◌, ◌++◌, ◌∷◌, [], ℕ, Bool, Err, IfErr, IfOk, OnErr, OnOk, List, option_to_list, refl, slice_get};
+ghost use Rattle.std.specs.List.{list_any};
 ghost use Rattle.hd_facts.specs.Counts.{Rose};
 ghost use Rattle.hw_door.specs.declared.heard.Given.TheVariants as say;
 ghost use Rattle.hw_door.specs.Calls.{HasFaultCause, IsLater, IsNewLane};
@@ -8,6 +9,7 @@ ghost use Rattle.hw_door.specs.DoorCalls.{Chain, asked_call, flushed, given_call
 ghost use Rattle.hw_door.specs.DoorLaws.{chain_joins};
 ghost use Rattle.hw_door.specs.Traffic.{Answer, IsNewWire};
 ghost use Rattle.hw_net.specs.Dialer.{FailsDialed, HaltsDialed, HaltsLanes, HearsDialed, HearsLanes, IsCutShort, Reaches, cleared, dialer_state_of, patience};
+ghost use Rattle.hw_net.specs.Bounds.{is_unwritten};
 ghost use Rattle.hw_net.specs.DialerCalls.{CallsDialed};
 ghost use Rattle.hw_net.specs.Door.{state_of};
 ghost use Rattle.hw_net.specs.Lane.{wires_of};
@@ -72,7 +74,8 @@ fn dial_at<W: Wires + Drop>(
         × Reaches (slice_get addresses.now place) method target.now upgrade wire (state_of reactor.old) (state_of reactor.new) answers) }
     ensures fresh { IfOk result (λ wire. IsNewWire (W.wires reactor.old.wires) (W.wires reactor.new.wires) wire) }
     ensures lanes { IfOk result (λ wire. wires_of reactor.new.lanes.items ≡ wires_of reactor.old.lanes.items ++ option_to_list wire) }
-    ensures halts { OnErr result ((answers : List Answer) × Tells (W.trace reactor.old.wires) (W.trace reactor.new.wires) answers × IsCutShort answers) }
+    ensures halts { OnErr result ((answers : List Answer) × Tells (W.trace reactor.old.wires) (W.trace reactor.new.wires) answers
+        × IsCutShort (W.wires reactor.old.wires) (W.wires reactor.new.wires) answers) }
     ensures unchanged { OnErr result (state_of reactor.new ≡ state_of reactor.old) }
     ensures memory { IfErr result (λ e. e ≡ DoorError.NoMemory) }
     ensures moment { reactor.new.moment ≡ reactor.old.moment }
@@ -115,6 +118,13 @@ impl<W: Wires + Drop> NetDialer<W> {
         ensures { result.now ≡ self.now.reactor.wires }
     {
         self.reactor.wires()
+    }
+
+    /// Whether something waits to be written on a lane whose wire wasn't shut.
+    pub fn has_unwritten(&self) -> bool
+        ensures { result ≡ list_any is_unwritten self.now.reactor.lanes.items }
+    {
+        self.reactor.has_unwritten()
     }
 
     /// How long a call may wait: not at all while a loss is to be heard.

@@ -4,6 +4,7 @@ ghost use Rattle.std.specs.Prelude.{◌≡◌, ◌<◌, ◌≤◌, ◌-◌, ◌&
 ghost use Rattle.hw_lanes.specs.Replies.{IsReply};
 ghost use Rattle.hh_http.specs.Texts.{continue_text, reply_text};
 ghost use Rattle.hw_door.specs.Traffic.{Answer, was_shut};
+ghost use Rattle.hw_net.specs.Bounds.{is_unwritten};
 ghost use Rattle.hw_net.specs.Door.{new_lane};
 ghost use Rattle.hw_net.specs.FirstReads.{ReadsFirst, IsCalmLane, IsWithin};
 ghost use Rattle.hw_net.specs.Halting.{Halts, HaltsIn, IsDue, IsLasting};
@@ -207,6 +208,18 @@ impl NetLane {
             Stage::Live => self.unwritten() > 0,
             Stage::Lost => false,
             Stage::Closing => true,
+            Stage::Over => false,
+        }
+    }
+
+    /// Whether something waits to be written, and the wire wasn't shut.
+    pub fn is_unwritten(&self) -> bool
+        ensures { result ≡ is_unwritten self.now }
+    {
+        match self.stage {
+            Stage::Live => self.unwritten() > 0,
+            Stage::Lost => false,
+            Stage::Closing => self.unwritten() > 0,
             Stage::Over => false,
         }
     }

@@ -5,6 +5,7 @@ ghost use Rattle.std.specs.Prelude.{◌≡◌, ◌<◌, ◌≤◌, ◌==◌, ◌
 ghost use Rattle.std.specs.List.{list_any};
 ghost use Rattle.hw_lanes.specs.Replies.{IsReply};
 ghost use Rattle.hw_door.specs.Traffic.{Answer};
+ghost use Rattle.hw_net.specs.Bounds.{is_unwritten};
 ghost use Rattle.hw_net.specs.Door.{RestsAt, kept, index_of_first};
 ghost use Rattle.hw_net.specs.FirstReads.{ReadsFirstAt, IsWithin};
 ghost use Rattle.hw_net.specs.Flushing.{Flushes, HasWriter, WriteEach};
@@ -90,6 +91,13 @@ impl Lanes {
         ensures { result ≡ false → (lane : Lane) → Contains self.now.items lane → is_closing lane.stage ≡ false }
     {
         self.tally.has_closing()
+    }
+
+    /// Whether something waits to be written on some lane whose wire wasn't shut.
+    pub fn has_unwritten(&self) -> bool
+        ensures { result ≡ list_any is_unwritten self.now.items }
+    {
+        self.items.iter().any(|lane| lane.is_unwritten())
     }
 
     /// Whether each lane is known to rest at this moment.

@@ -4,7 +4,9 @@ ghost use Rattle.std.specs.Prelude.{◌≡◌};
 ghost use Rattle.hw_net.specs.Awaited.{RepliesAreSaid, RequestsAreFree};
 ghost use Rattle.hw_net.specs.Bounds.{FailsAreWithin, FlushesAreWithin, HaltsAreWithin, NextIsWithin, NextIsInTime, RepliesAreWithin, SendsAreWithin, ShutsAreWithin};
 ghost use Rattle.hw_net.specs.Chains.{CallsAreASession, CallsSplit};
+ghost use Rattle.hw_net.specs.DialerChains.{CallsAreADialerSession};
 ghost use Rattle.hw_net.specs.DialerNumbers.{AsksRise};
+ghost use Rattle.hw_net.specs.DialerSessions.{AsksAreWritten, DialedDrainedWereFull, DialedFullnessIsTold, DialedLanesAreBounded, DialedLanesHaveWires, DialedLossesHaveCauses, DialedWiresAreShutForACause, DialedWiresAreShutOnce, LanesKeepWires, ResponsesAreAwaited, ResponsesAreGiven, UndialedAreMissed};
 ghost use Rattle.hw_net.specs.Limits.{piece, most_unwritten, most_gathered, most_gathered_bytes, most_before_full, most_drained, most_stalled, most_wait, most_closing, most_named, switching};
 ghost use Rattle.hw_net.specs.Numbers.{FlushesKeepNumbers, NumbersRise, RepliesKeepNumbers, SendsKeepNumbers, ShutsKeepNumbers};
 ghost use Rattle.hw_net.specs.Reaching.{OthersListen, LanesAreReached};
@@ -63,6 +65,12 @@ pub fn asks_rise<W: Wires + Drop>()
     ensures { AsksRise ⟦<NetDialer<W> as Dialer>⟧.Goes }
 {}
 
+/// The calls by which a dialer that was just started goes anywhere are a session of the dialer, if none of `next` failed: it heard and was given the same, in
+/// order, its asks that are said stand on wires, and over wires that tell, its answers are what they told meanwhile.
+pub fn dialer_calls_are_a_session<W: Wires + Drop>()
+    ensures { CallsAreADialerSession ⟦<NetDialer<W> as Dialer>⟧.Goes W.trace W.wires }
+{}
+
 /// A flush is calls of a session, each of which writes what waits on one lane. A call of `next` is such calls, or none, and then one that hears. So
 /// what holds in any session holds whatever is gathered.
 pub fn flushes_are_calls()
@@ -89,6 +97,13 @@ pub fn requests_are_asked()
 /// then the frames of its WebSocket, if it became one.
 pub fn replies_are_written()
     ensures { RepliesAreWritten }
+{}
+
+/// In any session of a dialer the bytes written on a lane's wire, and then those that wait, are the text of its ask, and then the frames of its WebSocket, if it
+/// became one. A lane stands on the wire on which it asked.
+pub fn asks_are_written()
+    ensures written { AsksAreWritten }
+    ensures lanes { LanesKeepWires }
 {}
 
 /// A request is heard on a lane only once each one before it there was replied to.
@@ -120,11 +135,45 @@ pub fn losses_have_causes()
     ensures { LossesHaveCauses }
 {}
 
+/// A response that is heard on a dialed lane is the first there, and the one with which all bytes begin that were read on its wire, in whatever pieces. The lane of
+/// an ask for a WebSocket is heard as upgraded exactly if that is a 101 which accepts its own key. A live lane on which none was heard, and which may still
+/// hear one, has read the beginning of one, or nothing.
+pub fn responses_are_given()
+    ensures given { ResponsesAreGiven }
+    ensures awaited { ResponsesAreAwaited }
+{}
+
+/// A lane of a dialer is heard as lost only for one of the causes of a door's, where what it waits for is its response, or because what came is no response, or
+/// a 101 that isn't the upgrade that was asked for. A lane that stands on no wire is lost because its ask went nowhere: once, and in the order of the asks.
+pub fn dialed_losses_have_causes()
+    ensures causes { DialedLossesHaveCauses }
+    ensures missed { UndialedAreMissed }
+{}
+
+/// The wire of a dialed lane is shut only if the lane is heard no more but for its loss, or if memory was out for its ask; and only once, and then nothing is read
+/// or written on it.
+pub fn dialed_wires_are_shut_for_a_cause()
+    ensures cause { DialedWiresAreShutForACause }
+    ensures once { DialedWiresAreShutOnce }
+    ensures lanes { DialedLanesHaveWires }
+{}
+
+/// In any session of a dialer no more waits on a lane than may, unless its wire was shut.
+pub fn dialed_lanes_are_bounded()
+    ensures { DialedLanesAreBounded }
+{}
+
 /// In any session a live lane is full exactly if the answer to the last message sent there was so and it wasn't heard as drained since;
 /// and it is heard as drained only if it was full.
 pub fn fullness_is_told()
     ensures full { FullnessIsTold }
     ensures drained { DrainedWereFull }
+{}
+
+/// In any session of a dialer a live lane is full exactly if that was told last, and it is heard as drained only if it was full.
+pub fn dialed_fullness_is_told()
+    ensures full { DialedFullnessIsTold }
+    ensures drained { DialedDrainedWereFull }
 {}
 
 /// A lane listens in each search that doesn't pass it over, as one does that hears a lane before it, unless lanes rest in it. Calls one after

@@ -1,10 +1,12 @@
 //! What a door and a dialer share: their lanes, the wires that these stand on, and one search of them after the other.
 
 ghost use Rattle.std.specs.Prelude.{◌≡◌, ◌≤◌, ◌+◌, ◌++◌, ◌∷◌, [], ℕ, List, Option, Some, Err, false, IfOk, IfErr, OnOk, OnErr, length, max, option_to_list};
+ghost use Rattle.std.specs.List.{list_any};
 ghost use Rattle.hd_facts.specs.Counts.{Rose};
 ghost use Rattle.hw_lanes.specs.Replies.{IsReply};
 ghost use Rattle.hw_door.specs.Calls.{HasFaultCause, IsCaused};
 ghost use Rattle.hw_door.specs.Traffic.{Answer, polled, poll_failed, accepted, accept_failed, was_shut, IsNewWire};
+ghost use Rattle.hw_net.specs.Bounds.{is_unwritten};
 ghost use Rattle.hw_net.specs.Chains.{is_there};
 ghost use Rattle.hw_net.specs.Dialer.{Dials, IsCutShort, WritesLong, with_dialed};
 ghost use Rattle.hw_net.specs.Door.{Searches, IsNumbered, DoesAt, HearsTurns, Begins, state_of, kept, time_to_wait, is_full_at, lane_of, with_accepted, next_from, from_after};
@@ -355,7 +357,8 @@ impl<W: Wires + Drop> Reactor<W> {
         ensures fresh { IfOk result (λ wire. IsNewWire (W.wires self.old.wires) (W.wires self.new.wires) wire) }
         ensures lanes { IfOk result (λ wire. wires_of self.new.lanes.items ≡ wires_of self.old.lanes.items ++ option_to_list wire) }
         ensures memory { IfErr result (λ e. e ≡ DoorError.NoMemory) }
-        ensures halts { OnErr result ((answers : List Answer) × Tells (W.trace self.old.wires) (W.trace self.new.wires) answers × IsCutShort answers) }
+        ensures halts { OnErr result ((answers : List Answer) × Tells (W.trace self.old.wires) (W.trace self.new.wires) answers
+            × IsCutShort (W.wires self.old.wires) (W.wires self.new.wires) answers) }
         ensures unchanged { OnErr result (state_of self.new ≡ state_of self.old) }
         ensures faults { self.new.faults ≡ self.old.faults }
         ensures gathering { self.new.gathering ≡ self.old.gathering }
@@ -430,6 +433,13 @@ impl<W: Wires + Drop> Reactor<W> {
         ensures { result ≡ false → kept self.now.lanes.items ≡ self.now.lanes.items }
     {
         self.lanes.has_over()
+    }
+
+    /// Whether something waits to be written on some lane whose wire wasn't shut.
+    pub fn has_unwritten(&self) -> bool
+        ensures { result ≡ list_any is_unwritten self.now.lanes.items }
+    {
+        self.lanes.has_unwritten()
     }
 
     /// Whether there is a lane of this number.

@@ -1,4 +1,4 @@
-use Rattle.std.proofs.Common.{rules, ◌≡◌, ◌+◌, ◌++◌, ◌∷◌, [], ◌∙◌, None, Some, Err, arith, refl, ap}
+use Rattle.std.proofs.Common.{rules, ◌≡◌, ◌+◌, ◌++◌, ◌∷◌, [], ◌∙◌, None, Some, Err, refl, ap}
 use Rattle.std.proofs.lemmas.Result.{err_from_is_err_and}
 use Rattle.hw_door.specs.Traffic.{IsNewWire}
 use Rattle.hw_net.specs.Lane.{wires_of}
@@ -10,8 +10,8 @@ use Rattle.hw_net.proofs.dialer.NetDialerDialer.ask.Goals as goal
 pub returns-then-self-clause-given : goal.returns-then-self-clause-given
 returns-then-self-clause-given g c =
     let d = c.self.inside in
-    rw (← c.self.view_is) (unasked-goes g.W.Wires.trace g.W.Wires.wires g.W.Wires.faults c.args.place c.args.method c.args.target.now c.args.upgrade _ (record { reactor = d.reactor; addresses = d.addresses.items; numbers = d.numbers.items; failed = d.failed.items; last = d.last }) (record { reactor = d.reactor; addresses = d.addresses.items; numbers = d.numbers.items; failed = d.failed.items; last = d.last }) refl (nothing-told (g.W.Wires.trace d.reactor.wires)) refl refl
-    (omega arith) refl)
+    rw (← c.self.view_is) (unasked-goes g.W.Wires.trace g.W.Wires.wires g.W.Wires.faults c.args.place c.args.method c.args.target.now c.args.upgrade _ (record { reactor = d.reactor; addresses = d.addresses.items; numbers = d.numbers.items; failed = d.failed.items; last = d.last }) (record { reactor = d.reactor; addresses = d.addresses.items; numbers = d.numbers.items; failed = d.failed.items; last = d.last }) refl (nothing-told (g.W.Wires.trace d.reactor.wires) (g.W.Wires.wires d.reactor.wires)) refl refl
+    refl)
 
 pub returns-in_default-clause-given : goal.returns-in_default-clause-given
 returns-in_default-clause-given g c =
@@ -47,7 +47,7 @@ returns-in_err-reserve-clause-given g c =
     let p = err_from_is_err_and c.from_residual.result c.from_residual.ensures.1 in
     let numbers : c.reserve.new.self.items ≡ d.numbers.items = search rules in
     rw (← c.self.view_is) (unasked-goes g.W.Wires.trace g.W.Wires.wires g.W.Wires.faults c.args.place c.args.method c.args.target.now c.args.upgrade c.from_residual.result (record { reactor = d.reactor; addresses = d.addresses.items; numbers = d.numbers.items; failed = d.failed.items; last = d.last }) (record { reactor = d.reactor; addresses = d.addresses.items; numbers = c.reserve.new.self.items; failed = d.failed.items; last = d.last })
-    (p.1 ∙ ap Err p.2) (nothing-told (g.W.Wires.trace d.reactor.wires)) (same-state (record { reactor = d.reactor; addresses = d.addresses.items; numbers = d.numbers.items; failed = d.failed.items; last = d.last }) (record { reactor = d.reactor; addresses = d.addresses.items; numbers = c.reserve.new.self.items; failed = d.failed.items; last = d.last }) refl numbers refl refl) refl (omega arith) refl)
+    (p.1 ∙ ap Err p.2) (nothing-told (g.W.Wires.trace d.reactor.wires) (g.W.Wires.wires d.reactor.wires)) (same-state (record { reactor = d.reactor; addresses = d.addresses.items; numbers = d.numbers.items; failed = d.failed.items; last = d.last }) (record { reactor = d.reactor; addresses = d.addresses.items; numbers = c.reserve.new.self.items; failed = d.failed.items; last = d.last }) refl numbers refl refl) refl refl)
 
 pub returns-in_err-reserve-2-clause-given : goal.returns-in_err-reserve-2-clause-given
 returns-in_err-reserve-2-clause-given g c =
@@ -56,7 +56,7 @@ returns-in_err-reserve-2-clause-given g c =
     let numbers : c.reserve.new.self.items ≡ d.numbers.items = search rules in
     let unheard : c.reserve-2.new.self.items ≡ d.failed.items = search rules in
     rw (← c.self.view_is) (unasked-goes g.W.Wires.trace g.W.Wires.wires g.W.Wires.faults c.args.place c.args.method c.args.target.now c.args.upgrade c.from_residual-in_err-reserve-2.result (record { reactor = d.reactor; addresses = d.addresses.items; numbers = d.numbers.items; failed = d.failed.items; last = d.last }) (record { reactor = d.reactor; addresses = d.addresses.items; numbers = c.reserve.new.self.items; failed = c.reserve-2.new.self.items; last = d.last })
-    (p.1 ∙ ap Err p.2) (nothing-told (g.W.Wires.trace d.reactor.wires)) (same-state (record { reactor = d.reactor; addresses = d.addresses.items; numbers = d.numbers.items; failed = d.failed.items; last = d.last }) (record { reactor = d.reactor; addresses = d.addresses.items; numbers = c.reserve.new.self.items; failed = c.reserve-2.new.self.items; last = d.last }) refl numbers unheard refl) refl (omega arith) refl)
+    (p.1 ∙ ap Err p.2) (nothing-told (g.W.Wires.trace d.reactor.wires) (g.W.Wires.wires d.reactor.wires)) (same-state (record { reactor = d.reactor; addresses = d.addresses.items; numbers = d.numbers.items; failed = d.failed.items; last = d.last }) (record { reactor = d.reactor; addresses = d.addresses.items; numbers = c.reserve.new.self.items; failed = c.reserve-2.new.self.items; last = d.last }) refl numbers unheard refl) refl refl)
 
 pub returns-in_err-wire-clause-given : goal.returns-in_err-wire-clause-given
 returns-in_err-wire-clause-given g c =
@@ -67,7 +67,7 @@ returns-in_err-wire-clause-given g c =
     let unheard : c.reserve-2.new.self.items ≡ d.failed.items = search rules in
     let cut = c.in_err-wire.ensures in
     rw (← c.self.view_is) (unasked-goes g.W.Wires.trace g.W.Wires.wires g.W.Wires.faults c.args.place c.args.method c.args.target.now c.args.upgrade c.from_residual-in_err-wire.result (record { reactor = d.reactor; addresses = d.addresses.items; numbers = d.numbers.items; failed = d.failed.items; last = d.last }) (record { reactor = e; addresses = d.addresses.items; numbers = c.reserve.new.self.items; failed = c.reserve-2.new.self.items; last = d.last })
-    (p.1 ∙ ap Err (p.2 ∙ cut.memory)) cut.halts (same-state (record { reactor = d.reactor; addresses = d.addresses.items; numbers = d.numbers.items; failed = d.failed.items; last = d.last }) (record { reactor = e; addresses = d.addresses.items; numbers = c.reserve.new.self.items; failed = c.reserve-2.new.self.items; last = d.last }) cut.unchanged numbers unheard refl) refl cut.bound cut.gathering)
+    (p.1 ∙ ap Err (p.2 ∙ cut.memory)) cut.halts (same-state (record { reactor = d.reactor; addresses = d.addresses.items; numbers = d.numbers.items; failed = d.failed.items; last = d.last }) (record { reactor = e; addresses = d.addresses.items; numbers = c.reserve.new.self.items; failed = c.reserve-2.new.self.items; last = d.last }) cut.unchanged numbers unheard refl) refl cut.gathering)
 
 pub invariant_of-self-in_err-wire : goal.invariant_of-self-in_err-wire
 invariant_of-self-in_err-wire g c =

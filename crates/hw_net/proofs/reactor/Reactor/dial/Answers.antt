@@ -1,4 +1,4 @@
-use Rattle.std.proofs.Common.{rules, ◌≤◌, ◌+◌, arith, refl}
+use Rattle.std.proofs.Common.{rules, ◌≡◌, ◌≤◌, ◌+◌, arith, refl}
 use Rattle.hw_net.specs.Door.{DoorState}
 use Rattle.hw_net.specs.Lane.{wires_of}
 use Rattle.hw_net.proofs.Dialing.{cut-on, dials-nowhere, dials-on}
@@ -31,7 +31,12 @@ returns-in-Ok-clause-dialed g c =
 pub returns-in-Ok-clause-halts : goal.returns-in-Ok-clause-halts
 returns-in-Ok-clause-halts g c =
     let trace = g.W.Wires.trace in
-    rw (← c.self.view_is) (cut-on c.ask_on.result (trace c.self.inside.wires) (trace c.connect.new.self) (trace c.ask_on.new.self.wires) c.in-Ok.wire (search rules) c.ask_on.ensures.told)
+    let bound = g.W.Wires.wires in
+    let first : bound c.self.inside.wires ≤ c.in-Ok.wire = search rules in
+    let next : c.in-Ok.wire + 1 ≤ bound c.connect.new.self = search rules in
+    let same : bound c.ask_on.new.self.wires ≡ bound c.connect.new.self = search rules in
+    rw (← c.self.view_is) (cut-on c.ask_on.result (trace c.self.inside.wires) (trace c.connect.new.self) (trace c.ask_on.new.self.wires) c.in-Ok.wire (bound c.self.inside.wires) (bound c.ask_on.new.self.wires) first
+    (omega (arith, next, same)) (search rules) c.ask_on.ensures.told)
 
 pub returns-in-Err-clause-dialed : goal.returns-in-Err-clause-dialed
 returns-in-Err-clause-dialed g c =

@@ -1,0 +1,8 @@
+use Rattle.hw_net.proofs.DialerEnds.{dialed-losses, undialed-missed}
+use Rattle.hw_net.proofs.laws.dialed_losses_have_causes.Goals as goal
+
+pub returns-clause-causes : goal.returns-clause-causes
+returns-clause-causes c = dialed-losses
+
+pub returns-clause-missed : goal.returns-clause-missed
+returns-clause-missed c = undialed-missed
