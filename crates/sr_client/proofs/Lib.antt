@@ -37,6 +37,7 @@ pub mod Scripts
 pub mod Starting
 pub mod Taken
 pub mod Texts
+pub mod Touched
 pub mod Uploads
 pub mod Wholes
 pub mod Worked

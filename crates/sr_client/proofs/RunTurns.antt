@@ -93,7 +93,7 @@ pub adds_none : {A : Type 0} (a : Option (List A)) → AddsSome a a []
 adds_none None = tt
 adds_none (Some xs) = sym (append-nil xs)
 
-appends_then : (a b c : Option (List ℕ)) (xs ys : List ℕ) → Appends a b xs → Appends b c ys → Appends a c (xs ++ ys)
+pub appends_then : (a b c : Option (List ℕ)) (xs ys : List ℕ) → Appends a b xs → Appends b c ys → Appends a c (xs ++ ys)
 appends_then None b c xs ys x y = tt
 appends_then (Some k) None c xs ys x y = absurd x
 appends_then (Some k) (Some m) None xs ys x y = absurd y

@@ -1,5 +1,5 @@
 -- What is promised of a client's turn, and of a run of turns, over a dialer, lots and an output.
-use Rattle.std.specs.Prelude.{◌≡◌, ◌⊎◌, ◌≤◌, ◌<◌, ℕ, Bool, true, false, List, [], ◌∷◌, ◌++◌, Option, Result, Ok, Err}
+use Rattle.std.specs.Prelude.{◌≡◌, ◌≢◌, ◌⊎◌, ◌≤◌, ◌<◌, ℕ, Bool, true, false, List, [], ◌∷◌, ◌++◌, Option, Result, Ok, Err}
 use Rattle.std.specs.Io.KnownBytes.{Appends}
 use Rattle.hd_facts.specs.Counts.{Rose}
 use Rattle.hm_message.specs.declared.message.Codec.{Codec}
@@ -70,6 +70,10 @@ pub record WentSo (Goes : List DoorCall → Type 0) (drawn since : Option (List 
   pub goes : Goes (told.calls ++ last)
   pub draws : AddsSome drawn since told.drawn
   pub puts : Appends held now told.printed
+
+-- the output is as it was, or it took at least one byte, if it tells the bytes that it holds
+abbrev pub IsTouchedByBytes : {K : Type 0} → (K → Option (List ℕ)) → K → K → Type 0
+IsTouchedByBytes holds before now = (now ≡ before) ⊎ ((text : List ℕ) × (text ≢ []) × Appends (holds before) (holds now) text)
 
 -- the call that failed where a turn was cut so
 abbrev pub failed_at : Cut → DoorError → List DoorCall

@@ -6,7 +6,7 @@
 //! - `script.rt`: the reader of its script ([`parse`]), and `orders.rt`: one line of it, carried out on the peer.
 //!
 //! `specs/Running.antt` says what a turn and a run promise, `specs/Clients.antt` how a client stands for what it did, `specs/Peers.antt` how its peer
-//! does, and `specs/Lines.antt` has the texts that it prints. The crate doesn't know sockets and clocks, words and files; no command uses it.
+//! does, and `specs/Lines.antt` has the texts that it prints. The crate doesn't know sockets and clocks, words and files.
 #![tactic(auto)]
 
 mod client;

@@ -1,11 +1,12 @@
 //! A client that runs a script over a dialer.
 
-ghost use Rattle.std.specs.Prelude.{◌≡◌, List, ◌++◌, ◌∷◌, [], true};
+ghost use Rattle.std.specs.Prelude.{◌≡◌, ◌≢◌, List, ◌++◌, ◌∷◌, [], true, Err};
 ghost use Rattle.hw_door.specs.DoorCalls.{flushed};
 ghost use Rattle.hd_client.specs.declared.order.Order.{Order};
 ghost use Rattle.hd_client.specs.Setups.{Setup};
 ghost use Rattle.sr_client.specs.Clients.{StandsClient};
-ghost use Rattle.sr_client.specs.Running.{HasRun, IsCausedBy, IsSetup, WentSo, faults};
+ghost use Rattle.sr_client.specs.declared.client.ClientError.TheVariants as error;
+ghost use Rattle.sr_client.specs.Running.{HasRun, IsCausedBy, IsSetup, IsTouchedByBytes, WentSo, faults};
 
 use crate::client::{Client, ClientError};
 use crate::script::ClientScript;
@@ -22,7 +23,7 @@ use std::alloc::Global;
 /// - `Refused` (8), `Lots` (9), `Turns` (10): so ended its last turn.
 /// - `Dial` (5), `Write` (4): a call failed, after which nothing was asked but the flush; and `NoMemory` (7).
 ///
-/// At the end the dialer is flushed.
+/// At the end the dialer is flushed. An output to which nothing is printed isn't touched, unless it failed.
 pub fn run_client<C: Dialer, L: Lots, K: Sink>(
     alloc: Global,
     script: ClientScript,
@@ -37,6 +38,7 @@ pub fn run_client<C: Dialer, L: Lots, K: Sink>(
     ensures dials { (s : Setup) → IsSetup s address.now codec limits → HasRun s script
         (WentSo (λ calls. C.Goes dialer.old (calls ++ flushed ∷ []) dialer.new) (L.drawn lots.old) (L.drawn lots.new) (K.holds out.old) (K.holds out.new)) turns result }
     ensures cause { IsCausedBy (faults (C.faults dialer.old) (L.faults lots.old) (K.faults out.old)) (faults (C.faults dialer.new) (L.faults lots.new) (K.faults out.new)) result }
+    ensures touched { result ≢ Err error.Write → IsTouchedByBytes K.holds out.old out.new }
     ensures flushed { C.is_flushed dialer.new ≡ true }
 {
     let ran = start_and_run(
@@ -61,6 +63,7 @@ fn start_and_run<C: Dialer, L: Lots, K: Sink>(
     ensures dials { (s : Setup) → IsSetup s address.now codec limits → HasRun s script
         (WentSo (λ calls. C.Goes dialer.old calls dialer.new) (L.drawn lots.old) (L.drawn lots.new) (K.holds out.old) (K.holds out.new)) turns result }
     ensures cause { IsCausedBy (faults (C.faults dialer.old) (L.faults lots.old) (K.faults out.old)) (faults (C.faults dialer.new) (L.faults lots.new) (K.faults out.new)) result }
+    ensures touched { result ≢ Err error.Write → IsTouchedByBytes K.holds out.old out.new }
 {
     he_wire::has_wire();
     let mut client = Client::start(alloc, script, address, codec, limits)?;
@@ -80,6 +83,7 @@ fn run_turns<C: Dialer, L: Lots, K: Sink>(
         (WentSo (λ calls. C.Goes dialer.old calls dialer.new) (L.drawn lots.old) (L.drawn lots.new) (K.holds out.old) (K.holds out.new)) turns result }
     ensures cause { (s : Setup) (script : List Order) → StandsClient s script client.old [] →
         IsCausedBy (faults (C.faults dialer.old) (L.faults lots.old) (K.faults out.old)) (faults (C.faults dialer.new) (L.faults lots.new) (K.faults out.new)) result }
+    ensures touched { result ≢ Err error.Write → IsTouchedByBytes K.holds out.old out.new }
 {
     for _turn in 0..turns {
         let done = client.turn(alloc, dialer, lots, out)?;

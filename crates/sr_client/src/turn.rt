@@ -1,6 +1,6 @@
 //! One turn of a client: it dials or hears, works, and says and prints what comes of that.
 
-ghost use Rattle.std.specs.Prelude.{◌≡◌, ◌≤◌, ◌+◌, ℕ, List, [], Option, true, false, not, Some as Given, None as Absent, Ok, IfOk, OnOk, MatchResult, if◌then◌else◌};
+ghost use Rattle.std.specs.Prelude.{◌≡◌, ◌≢◌, ◌≤◌, ◌+◌, ℕ, List, [], Option, true, false, not, Some as Given, None as Absent, Ok, Err, IfOk, OnOk, MatchResult, if◌then◌else◌};
 ghost use Rattle.hd_facts.specs.Counts.{HasCause};
 ghost use Rattle.hd_facts.specs.Writes.{PutAppends};
 ghost use Rattle.hub_calc.specs.Client.{client_hub};
@@ -23,7 +23,7 @@ ghost use Rattle.hn_dialing.specs.Stands.{Stands as Connected};
 ghost use Rattle.sr_client.specs.declared.client.ClientError.TheVariants as error;
 ghost use Rattle.sr_client.specs.declared.client.Words.{Words as WordsMeant};
 ghost use Rattle.sr_client.specs.Clients.{Before, Fits, Kept, PlaysBy, Standing, StandsClient, Tells, Working};
-ghost use Rattle.sr_client.specs.Running.{HasTurned, IsCausedBy, WentSo, faults};
+ghost use Rattle.sr_client.specs.Running.{HasTurned, IsCausedBy, IsTouchedByBytes, WentSo, faults};
 ghost use Rattle.sr_client.specs.Turning.{AreNone, BeginsBy, FitsNews, Follows, GivesBy, HasDone, IsAnswer, MayLink, MayStart, ObeysBy, SaysDue, SaysIn, WorksOn};
 
 use crate::client::{Client, ClientError, Words};
@@ -59,6 +59,7 @@ impl Client {
         ensures ended { self.old.is_ended ≡ true → (result ≡ Ok true) × (self.new ≡ self.old) × C.Goes dialer.old [] dialer.new × (lots.new ≡ lots.old) × (out.new ≡ out.old) }
         ensures cause { (s : Setup) (script : List Order) (h : List ClientEvent) → StandsClient s script self.old h → Fits (C.lanes dialer.old) (C.moment dialer.old) h →
             IsCausedBy (faults (C.faults dialer.old) (L.faults lots.old) (K.faults out.old)) (faults (C.faults dialer.new) (L.faults lots.new) (K.faults out.new)) result }
+        ensures touched { result ≢ Err error.Write → IsTouchedByBytes K.holds out.old out.new }
     {
         if self.is_ended {
             return Ok(true);
@@ -494,6 +495,7 @@ impl Client {
 /// The output is given this, unless it is nothing.
 fn put_all<K: Sink>(out: &mut K, printed: &[u8]) -> Result<(), Failed>
     ensures bytes { PutAppends (K.holds out.old) (K.holds out.new) result printed.now }
+    ensures touched { OnOk result (IsTouchedByBytes K.holds out.old out.new) }
     ensures cause { HasCause (K.faults out.old) (K.faults out.new) result }
 {
     if printed.is_empty() {

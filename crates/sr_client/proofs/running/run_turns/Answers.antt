@@ -1,6 +1,7 @@
-use Rattle.std.proofs.Common.{◌≡◌, ◌+◌, arith, refl, ◌∙◌}
+use Rattle.std.proofs.Common.{◌≡◌, ◌+◌, arith, inl, refl, ◌∙◌}
 use Rattle.sr_client.specs.Clients.{Fits, StandsClient}
 use Rattle.sr_client.proofs.RunTurns.{caused_by, ran_nothing, ran_on, run_by, run_done, run_failed, run_out}
+use Rattle.sr_client.proofs.Touched.{no_fault_before, ok_is_no_fault, touched_more}
 use Rattle.sr_client.proofs.running.run_turns.Goals as goal
 
 pub loop-turn-init : goal.loop-turn-init
@@ -8,6 +9,7 @@ loop-turn-init g c = record {
   ran = λ s script stands.
       ran_nothing s script (λ calls. g.C.Dialer.Goes c.args.dialer.now calls c.args.dialer.now) _ _ c.args.client.now _ _ (g.met.C.Dialer.stays c.args.dialer.now) stands;
   unfailed = λ s script stands. refl;
+  touched = inl refl;
 }
 
 pub returns-in_err-done-clause-dials : goal.returns-in_err-done-clause-dials
@@ -27,6 +29,11 @@ returns-in_err-done-clause-cause g c = λ s script stands.
     caused_by _ _ _ c.in_err-done.field-0.0 c.from_residual.result (c.loop-turn.invariant.unfailed s script stands)
     (c.in_err-done.ensures.cause s script r.h r.stands r.fits) c.from_residual.ensures.1
 
+pub returns-in_err-done-clause-touched : goal.returns-in_err-done-clause-touched
+returns-in_err-done-clause-touched g c = λ differ.
+    touched_more g.K.Sink.holds c.args.out.now c.loop-turn.out c.turn.new.out c.loop-turn.invariant.touched
+    (c.in_err-done.ensures.touched (no_fault_before c.in_err-done.field-0.0 c.from_residual.result c.from_residual.ensures.1 differ))
+
 pub returns-then-done-clause-dials : goal.returns-then-done-clause-dials
 returns-then-done-clause-dials g c = λ s script stands.
     let r = c.loop-turn.invariant.ran s script stands in
@@ -42,6 +49,11 @@ returns-then-done-clause-cause g c = λ s script stands.
     let r = c.loop-turn.invariant.ran s script stands in
     c.in_ok-done.ensures.cause s script r.h r.stands r.fits ∙ c.loop-turn.invariant.unfailed s script stands
 
+pub returns-then-done-clause-touched : goal.returns-then-done-clause-touched
+returns-then-done-clause-touched g c = λ differ.
+    touched_more g.K.Sink.holds c.args.out.now c.loop-turn.out c.turn.new.out c.loop-turn.invariant.touched
+    (c.in_ok-done.ensures.touched (ok_is_no_fault c.in_ok-done.done))
+
 pub loop-turn-preserved : goal.loop-turn-preserved
 loop-turn-preserved g c = record {
   ran = λ s script stands.
@@ -53,6 +65,8 @@ loop-turn-preserved g c = record {
   unfailed = λ s script stands.
       let r = c.loop-turn.invariant.ran s script stands in
       c.in_ok-done.ensures.cause s script r.h r.stands r.fits ∙ c.loop-turn.invariant.unfailed s script stands;
+  touched = touched_more g.K.Sink.holds c.args.out.now c.loop-turn.out c.turn.new.out c.loop-turn.invariant.touched
+      (c.in_ok-done.ensures.touched (ok_is_no_fault c.in_ok-done.done));
 }
 
 pub returns-clause-dials : goal.returns-clause-dials

@@ -10,6 +10,7 @@ use Rattle.sr_client.specs.Turning.{before_work}
 use Rattle.sr_client.proofs.RunTurns.{appends_none}
 use Rattle.sr_client.proofs.Causes.{cause_answer, cause_dialer, cause_err, cause_memory, cause_output}
 use Rattle.sr_client.proofs.Ended.{cut_giving, cut_in_work, cut_printing, ended_by, goes_if, standing_same, stands_after, turned_by, turned_err, turned_ok}
+use Rattle.sr_client.proofs.Touched.{is_fault}
 use Rattle.sr_client.proofs.client.Client.turn.Goals as goal
 
 pub returns-in_err-begin-clause-turn : goal.returns-in_err-begin-clause-turn
@@ -110,3 +111,12 @@ returns-clause-cause g c = λ s script h stands fits.
     (λ a. ⊥) h _ _ _ c.work.new.self _ c.work.new.words heard done c.give.new.self c.give.new.self given refl)
     (ap (λ k. faults (g.C.Dialer.faults c.give.new.dialer) (g.L.Lots.faults c.begin.new.lots) k) c.in_ok-put_all.ensures.cause.unfailed
     ∙ (ap (λ d. faults d (g.L.Lots.faults c.begin.new.lots) (g.K.Sink.faults c.args.out.now)) c.in_ok-give.ensures.cause ∙ (c.in_ok-begin.ensures.cause s h (g.K.Sink.faults c.args.out.now) (standing_same s c.args.self.now _ h refl stands.standing) fits.timely)))
+
+-- ---- the output
+
+pub returns-in_err-put_all-clause-touched : goal.returns-in_err-put_all-clause-touched
+returns-in_err-put_all-clause-touched g c = λ differ.
+    absurd (differ (is_fault c.from_residual-in_err-put_all.result c.from_residual-in_err-put_all.ensures.1))
+
+pub returns-clause-touched : goal.returns-clause-touched
+returns-clause-touched g c = λ differ. c.in_ok-put_all.ensures.touched
