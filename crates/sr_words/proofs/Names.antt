@@ -1,5 +1,5 @@
--- Names that differ, and that texts, numbers, options and codecs say one value each.
-use Rattle.std.proofs.Common.{◌≡◌, ◌∙◌, ℕ, List, ap, Some, true, false, codes, refl, sym}
+-- Names that differ, and that texts, numbers, options, codecs and URLs say one value each.
+use Rattle.std.proofs.Common.{◌≡◌, ◌∙◌, ℕ, List, Option, ap, Some, true, false, codes, refl, subst, sym}
 use Rattle.std.proofs.NetLemmas.Theorems.{IsIpText_unique}
 use Rattle.std.specs.Str.{bytes_eq}
 use Rattle.std.proofs.lemmas.Slice.Eq.{bytes_eq-Decides}
@@ -7,12 +7,15 @@ use Rattle.clap.specs.Words.{Row, Text}
 use Rattle.std.specs.Str.Parse.{digits_value, without_leading_plus}
 use Rattle.hm_message.specs.declared.message.Codec.{Codec}
 use Rattle.hm_message.specs.declared.message.Codec.TheVariants.{Json, Pack}
+use Rattle.hn_dialing.specs.Addresses.{AddressesAreOne, IsAddress, IsSameAddress}
 use Rattle.hub_server.specs.Resend.{ResendLimits}
+use Rattle.hw_door.specs.declared.heard.Address.{Address}
+use Rattle.sr_words.specs.declared.dialing.Dialing.{Dialing}
 use Rattle.sr_words.specs.declared.serving.Serving.{Serving}
 use Rattle.sr_words.specs.Clap.{IsNumber, SaysNumber}
 use Rattle.sr_words.specs.Resends.{IsResend}
 use Rattle.sr_words.specs.Lives.{IsLive}
-use Rattle.sr_words.specs.Words.{SaysServing, codec_name, serve_options}
+use Rattle.sr_words.specs.Words.{IsCodec, IsToken, SaysAddress, SaysDialing, SaysServing, client_options, codec_name, serve_options}
 use Rattle.sr_words.proofs.Options.{agree}
 
 pub apart : (a b : Text) → bytes_eq a b ≡ false → a ≡ b → ⊥
@@ -28,6 +31,14 @@ same_codec Json Json e = refl
 same_codec Json Pack e = absurd (apart (codes "json") (codes "pack") refl (inside e))
 same_codec Pack Json e = absurd (apart (codes "pack") (codes "json") refl (inside e))
 same_codec Pack Pack e = refl
+
+-- a text names one codec
+one_codec : (text : Text) (a b : Codec) → IsCodec text a → IsCodec text b → a ≡ b
+one_codec text a b x y = same_codec a b (ap Some (sym x ∙ y))
+
+-- a text that may be absent is one token
+one_token : (text a b : Option Text) → IsToken text a → IsToken text b → a ≡ b
+one_token text a b x y = x ∙ sym y
 
 -- a text is one number
 pub one_number : (bits : ℕ) (text : Text) (m n : ℕ) → IsNumber bits text m → IsNumber bits text n → m ≡ n
@@ -59,3 +70,25 @@ same_serving rows a b x y =
       (λ rows s t is is_too. is.1 ∙ sym is_too.1, (λ rows. one_number 64 _, (λ rows. IsIpText_unique _, (λ rows. same_resend _, (λ rows. same_live _, tt))))),
     ) x y in
     λ i. record { port = same.0 i; base = same.1.0 i; turns = same.1.1.0 i; listen = same.1.1.1.0 i; resend = same.1.1.1.1.0 i; live = same.1.1.1.1.1.0 i }
+
+-- but for the token, rows say one address
+same_address : AddressesAreOne → (rows : List Row) (a b : Address) → SaysAddress rows a → SaysAddress rows b → IsSameAddress a b
+same_address one rows a b x y =
+    let same : x.0 ≡ y.0 = inside (sym x.1.0 ∙ y.1.0) in
+    one y.0 a b (subst (λ text. IsAddress text a) same x.1.1) y.1.1
+
+-- rows ask for one client
+pub same_dialing : AddressesAreOne → (rows : List Row) (a b : Dialing) → SaysDialing rows a → SaysDialing rows b → a ≡ b
+unfolding SaysDialing
+same_dialing one rows a b x y =
+    let at = same_address one rows a.address b.address x.0 y.0 in
+    let same = agree client_options rows a b (
+      λ rows. one_codec _,
+      (λ rows. one_token _, (λ rows. one_number 64 _, (λ rows. same_resend _, tt))),
+    ) x.1 y.1 in
+    λ i. record {
+      address = record { host = at.0 i; port = at.1 i; base = at.2 i; token = same.1.0 i };
+      codec = same.0 i;
+      turns = same.1.1.0 i;
+      resend = same.1.1.1.0 i;
+    }

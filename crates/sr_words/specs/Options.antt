@@ -35,6 +35,11 @@ abbrev pub choice_of_two : {Whole Value : Type 0} → Text → Text × Text → 
 choice_of_two {Value = Value} name usual Says part =
     record { name = name; values = 2; Value = Value; Says = λ rows. Says (texts_of name usual rows); part = part }
 
+-- an option of one value that has no usual text: what it says is told also of none
+abbrev pub choice_if_given : {Whole Value : Type 0} → Text → (Option Text → Value → Type 0) → (Whole → Value) → Choice Whole
+choice_if_given {Value = Value} name Says part =
+    record { name = name; values = 1; Value = Value; Says = λ rows. Says (first_of name rows); part = part }
+
 -- what clap is told of an option: its name, and how many values it takes
 abbrev pub Told : Type 0
 Told = Text × ℕ

@@ -1,24 +1,35 @@
 -- What the words of the command line ask for.
-use Rattle.std.specs.Prelude.{◌≡◌, ◌≢◌, ◌≤◌, ℕ, List, [], ◌∷◌, Some, None, map, codes, String, string_bytes}
+use Rattle.std.specs.Prelude.{◌≡◌, ◌≢◌, ◌≤◌, ℕ, List, [], ◌∷◌, Option, Some, None, map, codes, String, string_bytes}
 use Rattle.std.specs.Net.Grammar.{IsIpText}
 use Rattle.std.specs.declared.alloc.Global.{Global}
-use Rattle.clap.specs.Words.{App, Row, Text, matches_of, with_rule}
+use Rattle.clap.specs.Words.{App, Row, Text, first_of, matches_of, with_rule}
 use Rattle.hd_facts.specs.Unique.{IsTheOne}
 use Rattle.hm_message.specs.declared.message.Codec.{Codec}
 use Rattle.hm_message.specs.declared.message.Codec.TheVariants.{Json, Pack}
+use Rattle.hn_dialing.specs.Addresses.{IsAddress}
+use Rattle.hw_door.specs.declared.heard.Address.{Address}
 use Rattle.sr_words.specs.declared.commands.Command.{Command}
-use Rattle.sr_words.specs.declared.commands.Command.TheVariants.{Replay, Soak, Check, Convert, Serve}
+use Rattle.sr_words.specs.declared.commands.Command.TheVariants.{Replay, Soak, Check, Convert, Serve, Client}
+use Rattle.sr_words.specs.declared.dialing.Dialing.{Dialing}
 use Rattle.sr_words.specs.declared.serving.Serving.{Serving}
 use Rattle.sr_words.specs.declared.serving.Settings.{Settings}
 use Rattle.sr_words.specs.Base.{IsBase}
 use Rattle.sr_words.specs.Clap.{Gives, IsNumber, SaysNumber, Takes, bare_app, required}
-use Rattle.sr_words.specs.Options.{Choice, SayAll, choice, choice_of_two, told_of, with_options}
+use Rattle.sr_words.specs.Options.{Choice, SayAll, choice, choice_if_given, choice_of_two, told_of, with_options}
 use Rattle.sr_words.specs.Resends.{IsResend}
 use Rattle.sr_words.specs.Lives.{IsLive}
 
 abbrev pub codec_name : Codec → Text
 codec_name Json = codes "json"
 codec_name Pack = codes "pack"
+
+-- the text names the codec
+abbrev pub IsCodec : Text → Codec → Type 0
+IsCodec text codec = text ≡ codec_name codec
+
+-- the token is the text that is given, if one is
+abbrev pub IsToken : Option Text → Option Text → Type 0
+IsToken text token = token ≡ text
 
 -- the most steps of a soak
 abbrev pub most_steps : ℕ
@@ -33,6 +44,15 @@ serve_options =
     ∷ choice (codes "listen") (codes "127.0.0.1") IsIpText (λ serving. serving.listen)
     ∷ choice_of_two (codes "resend") (codes "1024", codes "100000") IsResend (λ serving. serving.resend)
     ∷ choice (codes "live") (codes "10000") IsLive (λ serving. serving.live)
+    ∷ []
+
+-- the options of `client`
+abbrev pub client_options : List (Choice Dialing)
+client_options =
+    choice (codes "codec") (codes "json") IsCodec (λ dialing. dialing.codec)
+    ∷ choice_if_given (codes "token") IsToken (λ dialing. dialing.address.token)
+    ∷ choice (codes "turns") (codes "18446744073709551615") (IsNumber 64) (λ dialing. dialing.turns)
+    ∷ choice_of_two (codes "resend") (codes "1024", codes "100000") IsResend (λ dialing. dialing.resend)
     ∷ []
 
 -- what clap is told of the words after each name
@@ -55,6 +75,17 @@ serve_app = with_options (bare_app (codes "serve")) (told_of serve_options)
 unfoldable pub SaysServing : List Row → Serving → Type 0
 SaysServing = SayAll serve_options
 
+unfoldable pub client_app : App
+client_app = with_options (with_rule (bare_app (codes "client")) (required (codes "url"))) (told_of client_options)
+
+-- these rows give the argument `url` a text that is the URL of a hub at this address
+abbrev pub SaysAddress : List Row → Address → Type 0
+SaysAddress rows address = (text : Text) × ((first_of (codes "url") rows ≡ Some text) × IsAddress text address)
+
+-- what these rows give the URL and the options of `client` says this
+unfoldable pub SaysDialing : List Row → Dialing → Type 0
+SaysDialing rows dialing = SaysAddress rows dialing.address × SayAll client_options rows dialing
+
 -- the command of this name, with these words after it, asks for this
 abbrev pub AsksAfter : Text → List Text → Command → Type 0
 AsksAfter name rest Replay = (name ≡ codes "replay") × Takes replay_app rest
@@ -68,6 +99,8 @@ AsksAfter name rest (Convert from to) =
     × Gives convert_app rest (codes "to") (codec_name to) × (from ≢ to)
 AsksAfter name rest (Serve serving) =
     (name ≡ codes "serve") × Takes serve_app rest × SaysServing (matches_of serve_app rest) serving
+AsksAfter name rest (Client dialing) =
+    (name ≡ codes "client") × Takes client_app rest × SaysDialing (matches_of client_app rest) dialing
 
 abbrev pub AsksNothingAfter : Text → List Text → Type 0
 AsksNothingAfter name rest = (command : Command) → AsksAfter name rest command → ⊥
@@ -82,15 +115,17 @@ Asks words command = (name : Text) × (rest : List Text) × (texts words ≡ nam
 abbrev pub IsNoCommand : List (String Global) → Type 0
 IsNoCommand words = (command : Command) → Asks words command → ⊥
 
--- what has to be known before the command can run: something of a server alone
+-- what has to be known before the command can run: something of a server, and where a client dials
 abbrev pub settings_of : Command → Settings
 settings_of (Serve serving) = record {
   port = Some serving.port;
   base = Some serving.base;
   listen = Some serving.listen;
   live = Some serving.live;
+  address = None;
 }
-settings_of _ = record { port = None; base = None; listen = None; live = None }
+settings_of (Client dialing) = record { port = None; base = None; listen = None; live = None; address = Some dialing.address }
+settings_of _ = record { port = None; base = None; listen = None; live = None; address = None }
 
 -- these are the settings of the one command that the words ask for
 abbrev pub AreSettings : List (String Global) → Settings → Type 0

@@ -1,5 +1,6 @@
 //! The commands of the program, as values: what the words of a command line come to.
 
+use crate::dialing::Dialing;
 use crate::serving::Serving;
 use hm_message::Codec;
 
@@ -16,4 +17,6 @@ pub enum Command {
     Convert { from: Codec, to: Codec },
     /// To serve the hubs.
     Serve(Serving),
+    /// To call methods of a hub by a script, over connections that are dialed.
+    Client(Dialing),
 }

@@ -6,14 +6,21 @@ ghost use Rattle.std.specs.Net.Grammar.{IsIpText};
 ghost use Rattle.std.specs.declared.net.ip_addr.IpAddr.{IpAddr};
 ghost use Rattle.sr_words.specs.Base.{IsBase, IsPath, is_path_byte};
 ghost use Rattle.sr_words.specs.Clap.{IsNumber};
+ghost use Rattle.hm_message.specs.declared.message.Codec.{Codec};
+ghost use Rattle.hn_dialing.specs.Addresses.{IsAddress};
 ghost use Rattle.hub_server.specs.Resend.{ResendLimits as LimitsMeant};
+ghost use Rattle.hw_door.specs.declared.heard.Address.{Address};
 ghost use Rattle.sr_words.specs.Lives.{IsLive};
 ghost use Rattle.sr_words.specs.Resends.{IsResend};
+ghost use Rattle.sr_words.specs.Words.{IsCodec};
 
 use crate::error::WordsError;
 use hd_server::LiveLimit;
+use hm_message::Codec;
+use hn_dialing::{AddressError, hub_address};
 use hub_server::ResendLimits;
 use hv_value::Text;
+use hw_door::Address;
 use std::alloc::Global;
 use std::net::IpAddr;
 
@@ -38,6 +45,19 @@ pub(crate) fn number(text: &str) -> Result<u64, WordsError>
     match text.parse::<u64>() {
         Ok(n) => Ok(n),
         Err(_) => Err(WordsError::NoCommand),
+    }
+}
+
+/// The codec that a text names.
+pub(crate) fn codec(text: &str) -> Result<Codec, WordsError>
+    ensures said { IfOk result (IsCodec text.now) }
+    ensures none { IfErr result (λ e. (e ≡ WordsError.NoCommand)
+        × ((codec : Codec) → IsCodec text.now codec → ⊥)) }
+{
+    match text {
+        "json" => Ok(Codec::Json),
+        "pack" => Ok(Codec::Pack),
+        _ => Err(WordsError::NoCommand),
     }
 }
 
@@ -85,6 +105,18 @@ pub(crate) fn address(text: &str) -> Result<IpAddr, WordsError>
     match text.parse::<IpAddr>() {
         Ok(address) => Ok(address),
         Err(_) => Err(WordsError::NoCommand),
+    }
+}
+
+/// Where the hub stands whose URL a text is, with this access token for each ask. `NoCommand` if the text is no URL of a hub.
+pub(crate) fn hub(alloc: Global, text: &str, token: Option<Text>) -> Result<Address, WordsError>
+    ensures said { IfOk result (λ address. IsAddress text.now address × (address.token ≡ token)) }
+    ensures none { result ≡ Err WordsError.NoCommand → (address : Address) → IsAddress text.now address → ⊥ }
+{
+    match hub_address(alloc, text, token) {
+        Ok(address) => Ok(address),
+        Err(AddressError::NoAddress) => Err(WordsError::NoCommand),
+        Err(AddressError::NoMemory) => Err(WordsError::NoMemory),
     }
 }
 

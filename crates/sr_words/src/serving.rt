@@ -1,16 +1,11 @@
-//! What `serve` is asked for, and which options it has.
+//! What `serve` is asked for, which options it has, and what has to be known of a command before it can run.
 
+use crate::choice::Choice;
 use hd_server::LiveLimit;
 use hub_server::ResendLimits;
 use hv_value::Text;
+use hw_door::Address;
 use std::net::IpAddr;
-
-/// An option `--NAME VALUE ..` that may be absent.
-pub(crate) struct Choice {
-    pub(crate) name: &'static str,
-    /// How many values it takes.
-    pub(crate) values: usize,
-}
 
 /// The options of `serve`.
 pub(crate) const SERVE_OPTIONS: &[Choice] = &[
@@ -57,12 +52,13 @@ pub struct Serving {
     pub live: LiveLimit,
 }
 
-/// What has to be known before the objects are made that a command runs over. Each is `None` for a command other than
-/// `serve`.
+/// What has to be known before the objects are made that a command runs over. Only `client` has an address, and only `serve` has
+/// the others.
 #[derive(Drop, PartialEq, Eq)]
 pub struct Settings {
     pub port: Option<u16>,
     pub base: Option<Text>,
     pub listen: Option<IpAddr>,
     pub live: Option<LiveLimit>,
+    pub address: Option<Address>,
 }

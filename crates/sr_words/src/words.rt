@@ -5,16 +5,23 @@ ghost use Rattle.clap.specs.Words.{app_of, rule_of, first_of, found_of, is_simpl
 ghost use Rattle.hd_facts.specs.Unique.{IsTheOne};
 ghost use Rattle.sr_words.specs.Clap.{SaysNumber, Takes, bare_app, optional, required};
 ghost use Rattle.sr_words.specs.Options.{text_of, texts_of, with_options};
-ghost use Rattle.sr_words.specs.Words.{AreSettings, Asks, AsksAfter, AsksNothingAfter, IsNoCommand, SaysServing, check_app, codec_name, convert_app, replay_app, serve_app, soak_app, texts};
+ghost use Rattle.sr_words.specs.Words.{AreSettings, Asks, AsksAfter, AsksNothingAfter, IsNoCommand, SaysAddress, SaysDialing, SaysServing, check_app, client_app, codec_name, convert_app, replay_app, serve_app, soak_app, texts};
 ghost use Rattle.hm_message.specs.declared.message.Codec.{Codec};
+ghost use Rattle.hw_door.specs.declared.heard.Address.{Address};
+ghost use Rattle.sr_words.specs.declared.dialing.Dialing.{Dialing};
 ghost use Rattle.sr_words.specs.declared.serving.Serving.{Serving};
 
+use crate::choice::Choice;
 use crate::commands::Command;
+use crate::dialing::{CLIENT_OPTIONS, Dialing};
 use crate::error::WordsError;
-use crate::reading::{address, base, live, number, port, resend};
-use crate::serving::{Choice, SERVE_OPTIONS, Serving, Settings};
+use crate::reading::{address, base, codec, hub, live, number, port, resend};
+use crate::serving::{SERVE_OPTIONS, Serving, Settings};
 use clap::{Arg, ArgAction, ArgMatches};
 use hm_message::Codec;
+use hn_dialing::addresses_are_one;
+use hv_value::Text;
+use hw_door::Address;
 use std::alloc::{AllocError, Global};
 
 /// A command whose words begin with its arguments, and that has none of clap's own.
@@ -75,16 +82,15 @@ pub(crate) fn matches_in<'a>(
 }
 
 /// The codec that this argument names.
-fn codec(matches: &ArgMatches, id: &str) -> Result<Codec, WordsError>
+fn codec_of(matches: &ArgMatches, id: &str) -> Result<Codec, WordsError>
     ensures named { IfOk result (λ codec. first_of id.now (rows_of (found_of matches.now)) ≡ Some (codec_name codec)) }
     ensures none { IfErr result (λ e. (e ≡ WordsError.NoCommand)
         × ((codec : Codec) → first_of id.now (rows_of (found_of matches.now)) ≡ Some (codec_name codec) → ⊥)) }
 {
-    match matches.get_str(id) {
-        Some("json") => Ok(Codec::Json),
-        Some("pack") => Ok(Codec::Pack),
-        _ => Err(WordsError::NoCommand),
-    }
+    let Some(text) = matches.get_str(id) else {
+        return Err(WordsError::NoCommand);
+    };
+    codec(text)
 }
 
 /// The command `replay`, which has no arguments.
@@ -116,7 +122,7 @@ fn check_words(alloc: Global, words: &[String]) -> Result<Command, WordsError>
     ensures no_command { result ≡ Err WordsError.NoCommand → AsksNothingAfter (codes "check") (texts words.now) }
 {
     let matches = matches_in(check_command(alloc)?, words)?;
-    let codec = codec(&matches, "codec")?;
+    let codec = codec_of(&matches, "codec")?;
     Ok(Command::Check { codec })
 }
 
@@ -174,8 +180,8 @@ fn convert_words(alloc: Global, words: &[String]) -> Result<Command, WordsError>
     ensures no_command { result ≡ Err WordsError.NoCommand → AsksNothingAfter (codes "convert") (texts words.now) }
 {
     let matches = matches_in(convert_command(alloc)?, words)?;
-    let from = codec(&matches, "from")?;
-    let to = codec(&matches, "to")?;
+    let from = codec_of(&matches, "from")?;
+    let to = codec_of(&matches, "to")?;
     if from == to {
         return Err(WordsError::NoCommand);
     }
@@ -247,12 +253,74 @@ fn serve_words(alloc: Global, words: &[String]) -> Result<Command, WordsError>
     Ok(Command::Serve(serving(alloc, &matches)?))
 }
 
+/// The command `client URL` with its options.
+#[tactic(auto, unfolding(crate::specs::Words::client_app))]
+pub(crate) fn client_command<'a>(alloc: Global) -> Result<clap::Command<'a>, AllocError>
+    ensures { IfOk result (λ command. app_of command ≡ client_app) }
+{
+    let command = bare(alloc, "client").arg(required(alloc, "url"))?;
+    with_options(alloc, command, CLIENT_OPTIONS)
+}
+
+/// The text of the option of this name, if it is given.
+fn given(alloc: Global, matches: &ArgMatches, name: &str) -> Result<Option<Text>, AllocError>
+    ensures { IfOk result (λ text. text ≡ first_of name.now (rows_of (found_of matches.now))) }
+{
+    match matches.get_str(name) {
+        Some(text) => Ok(Some(Text::of(alloc, text)?)),
+        None => Ok(None),
+    }
+}
+
+/// Where the hub stands by the URL and the token that clap found.
+fn address_of(alloc: Global, matches: &ArgMatches) -> Result<Address, WordsError>
+    ensures said { IfOk result (SaysAddress (rows_of (found_of matches.now))) }
+    ensures token { IfOk result (λ address. address.token ≡ first_of (codes "token") (rows_of (found_of matches.now))) }
+    ensures none { result ≡ Err WordsError.NoCommand
+        → (address : Address) → SaysAddress (rows_of (found_of matches.now)) address → ⊥ }
+{
+    let Some(url) = matches.get_str("url") else {
+        return Err(WordsError::NoCommand);
+    };
+    let token = given(alloc, matches, "token")?;
+    hub(alloc, url, token)
+}
+
+/// What the URL and the options that clap found ask of a client.
+#[tactic(auto, unfolding(crate::specs::Words::SaysDialing))]
+fn dialing(alloc: Global, matches: &ArgMatches) -> Result<Dialing, WordsError>
+    ensures said { IfOk result (SaysDialing (rows_of (found_of matches.now))) }
+    ensures none { result ≡ Err WordsError.NoCommand
+        → (dialing : Dialing) → SaysDialing (rows_of (found_of matches.now)) dialing → ⊥ }
+{
+    let address = address_of(alloc, matches)?;
+    let codec = codec(text(matches, "codec", "json"))?;
+    let turns = number(text(matches, "turns", "18446744073709551615"))?;
+    let resend = resend(texts(matches, "resend", ("1024", "100000")))?;
+    Ok(Dialing {
+        address,
+        codec,
+        turns,
+        resend,
+    })
+}
+
+/// What `client` asks for with these words after it.
+fn client_words(alloc: Global, words: &[String]) -> Result<Command, WordsError>
+    ensures ok { IfOk result (IsTheOne (AsksAfter (codes "client") (texts words.now))) }
+    ensures no_command { result ≡ Err WordsError.NoCommand → AsksNothingAfter (codes "client") (texts words.now) }
+{
+    addresses_are_one();
+    let matches = matches_in(client_command(alloc)?, words)?;
+    Ok(Command::Client(dialing(alloc, &matches)?))
+}
+
 /// The command that the words of a command line ask for, without the program's name among them.
 ///
 /// # Errors
 ///
 /// `NoCommand` if they ask for none: the first is no command's name, the words after it are none that the command
-/// takes, a number is none or too great, an address is none, or they ask to convert from a codec to itself.
+/// takes, a number is none or too great, an address or a URL is none, or they ask to convert from a codec to itself.
 /// `NoMemory` if memory ran out, which says nothing of the words.
 pub fn parse(alloc: Global, words: &[String]) -> Result<Command, WordsError>
     ensures ok { IfOk result (IsTheOne (Asks words.now)) }
@@ -267,6 +335,7 @@ pub fn parse(alloc: Global, words: &[String]) -> Result<Command, WordsError>
         "check" => check_words(alloc, rest),
         "convert" => convert_words(alloc, rest),
         "serve" => serve_words(alloc, rest),
+        "client" => client_words(alloc, rest),
         _ => Err(WordsError::NoCommand),
     }
 }
@@ -286,12 +355,21 @@ pub fn settings(alloc: Global, words: &[String]) -> Result<Settings, WordsError>
             base: Some(serving.base),
             listen: Some(serving.listen),
             live: Some(serving.live),
+            address: None,
+        }),
+        Command::Client(dialing) => Ok(Settings {
+            port: None,
+            base: None,
+            listen: None,
+            live: None,
+            address: Some(dialing.address),
         }),
         _ => Ok(Settings {
             port: None,
             base: None,
             listen: None,
             live: None,
+            address: None,
         }),
     }
 }

@@ -1,7 +1,7 @@
 use Rattle.std.proofs.Common.{◌≡◌, ◌∙◌, ◌+◌, ◌<◌, ℕ, List, ap, drop, get_or, length, map, sym}
 use Rattle.std.proofs.lemmas.List.{at_drop_all, at_drop_more}
 use Rattle.clap.specs.Words.{App, app_of, with_rule}
-use Rattle.sr_words.specs.declared.serving.Choice.{Choice}
+use Rattle.sr_words.specs.declared.choice.Choice.{Choice}
 use Rattle.sr_words.specs.Clap.{optional}
 use Rattle.sr_words.specs.Options.{with_options}
 use Rattle.sr_words.proofs.words.with_options.Goals as goal

@@ -1,7 +1,7 @@
 use Rattle.std.proofs.Common.{◌∙◌, ap}
 use Rattle.clap.specs.Words.{is_simple_and_free}
 use Rattle.sr_words.proofs.Simple.{serve_is_simple}
-use Rattle.sr_words.proofs.complaints.refused_option.Goals as goal
+use Rattle.sr_words.proofs.complaints.refused_by_serve.Goals as goal
 
 pub matches_in-requires : goal.matches_in-requires
 matches_in-requires c = ap is_simple_and_free c.in_ok-serve_command.ensures ∙ serve_is_simple
