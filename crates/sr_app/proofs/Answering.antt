@@ -13,20 +13,21 @@ use Rattle.sr_check.specs.declared.task.Task.{Task}
 use Rattle.sr_check.specs.declared.task.Task.TheVariants as task
 use Rattle.sr_check.specs.Stream.{ReadsNoFurther}
 use Rattle.sr_words.specs.declared.commands.Command.{Command}
-use Rattle.sr_words.specs.declared.commands.Command.TheVariants.{Replay, Soak, Check, Convert, Serve}
+use Rattle.sr_words.specs.declared.commands.Command.TheVariants.{Replay, Soak, Check, Convert, Serve, Client}
 use Rattle.sr_app.specs.declared.run.Status.{Status}
-use Rattle.sr_app.specs.declared.run.Status.TheVariants.{Done, Usage, Refused, ReadFault, WriteFault, DoorFault, KeeperFault, NoMemory}
+use Rattle.sr_app.specs.declared.run.Status.TheVariants.{Done, Usage, Refused, ReadFault, WriteFault, DoorFault, KeeperFault, NoMemory, ConnectionRefused, LotsFault, TurnsDone}
 use Rattle.sr_script.specs.Script.{IsRefusedAt}
 use Rattle.sr_script.specs.Laws.{LongIsRefusedByItsFront}
 use Rattle.sr_soak.specs.declared.totals.Totals.{Totals}
 use Rattle.sr_soak.specs.Soaks.{IsSoak, soak_line}
-use Rattle.sr_app.specs.Run.{soaking, IsReplayed, IsRefused, IsTextAnswer, AnswersWith, Answered, ReadsBounded, Ends, replaying, meaning_of, input_output, code_of, status_of}
+use Rattle.sr_app.specs.Run.{soaking, IsReplayed, IsRefused, IsTextAnswer, AnswersWith, Answered, ReadsBounded, Ends, IsEndedOutside, replaying, meaning_of, input_output, code_of, status_of}
 use Rattle.sr_app.proofs.Told.{bytes_of, consumed_nothing, appended_nothing, text_is_told, whole_is_told}
 
 -- ---- statuses, their codes, and how tasks stop
 
 abbrev status_with : ℕ → Status
-status_with n = cond (nat_eq n 0) Done (cond (nat_eq n 1) Usage (cond (nat_eq n 2) Refused (cond (nat_eq n 3) ReadFault (cond (nat_eq n 4) WriteFault (cond (nat_eq n 5) DoorFault (cond (nat_eq n 6) KeeperFault NoMemory))))))
+status_with n = cond (nat_eq n 0) Done (cond (nat_eq n 1) Usage (cond (nat_eq n 2) Refused (cond (nat_eq n 3) ReadFault (cond (nat_eq n 4) WriteFault (cond (nat_eq n 5) DoorFault (cond (nat_eq n 6) KeeperFault (cond (nat_eq n 7) NoMemory
+    (cond (nat_eq n 8) ConnectionRefused (cond (nat_eq n 9) LotsFault TurnsDone)))))))))
 
 status_with-code_of : (s : Status) → status_with (code_of s) ≡ s
 status_with-code_of Done = refl
@@ -37,12 +38,16 @@ status_with-code_of WriteFault = refl
 status_with-code_of DoorFault = refl
 status_with-code_of KeeperFault = refl
 status_with-code_of NoMemory = refl
+status_with-code_of ConnectionRefused = refl
+status_with-code_of LotsFault = refl
+status_with-code_of TurnsDone = refl
 
 -- a code is that of one status
 pub same_status : (s t : Status) → code_of s ≡ code_of t → s ≡ t
 same_status s t e = sym (status_with-code_of s) ∙ ap status_with e ∙ status_with-code_of t
 
 pub is_code : (s : Status) → (code_of s ≡ 0) ⊎ (code_of s ≡ 1) ⊎ (code_of s ≡ 2) ⊎ (code_of s ≡ 3) ⊎ (code_of s ≡ 4) ⊎ (code_of s ≡ 5) ⊎ (code_of s ≡ 6) ⊎ (code_of s ≡ 7)
+    ⊎ (code_of s ≡ 8) ⊎ (code_of s ≡ 9) ⊎ (code_of s ≡ 10)
 is_code Done = search rules
 is_code Usage = search rules
 is_code Refused = search rules
@@ -51,6 +56,9 @@ is_code WriteFault = search rules
 is_code DoorFault = search rules
 is_code KeeperFault = search rules
 is_code NoMemory = search rules
+is_code ConnectionRefused = search rules
+is_code LotsFault = search rules
+is_code TurnsDone = search rules
 
 abbrev stop_with : Status → Stop
 stop_with Refused = stop.Refused
@@ -80,15 +88,11 @@ not_usage stop.ReadFault is = cc
 not_usage stop.WriteFault is = cc
 not_usage stop.NoMemory is = cc
 
-pub not_served : (s : Stop) → (status_of s ≡ DoorFault) ⊎ (status_of s ≡ KeeperFault) → ⊥
-not_served stop.Refused (inl is) = cc
-not_served stop.Refused (inr is) = cc
-not_served stop.ReadFault (inl is) = cc
-not_served stop.ReadFault (inr is) = cc
-not_served stop.WriteFault (inl is) = cc
-not_served stop.WriteFault (inr is) = cc
-not_served stop.NoMemory (inl is) = cc
-not_served stop.NoMemory (inr is) = cc
+pub not_ended : (s : Stop) → IsEndedOutside (status_of s) → ⊥
+not_ended stop.Refused is = is
+not_ended stop.ReadFault is = is
+not_ended stop.WriteFault is = is
+not_ended stop.NoMemory is = is
 
 -- ---- what is answered to the bytes that were read is the answer to the whole input
 
@@ -141,23 +145,19 @@ writes_part law input left before now text answer n WriteFault read ended none a
 writes_part law input left before now text answer n DoorFault read ended none appends = absurd none
 writes_part law input left before now text answer n KeeperFault read ended none appends = absurd none
 writes_part law input left before now text answer n NoMemory read ended none appends = absurd none
+writes_part law input left before now text answer n ConnectionRefused read ended none appends = absurd none
+writes_part law input left before now text answer n LotsFault read ended none appends = absurd none
+writes_part law input left before now text answer n TurnsDone read ended none appends = absurd none
 
 -- a status is not one with another code
 apart : (result own other : Status) → result ≡ own → (code_of own < code_of other) ⊎ (code_of other < code_of own) → result ≡ other → ⊥
 apart result own other same (inl less) is = omega (arith, less, ap code_of same, ap code_of is)
 apart result own other same (inr more) is = omega (arith, more, ap code_of same, ap code_of is)
 
--- nor one of those that only serving has
-unserved : (result own : Status) → result ≡ own → (code_of own < 5) ⊎ (6 < code_of own) → (result ≡ DoorFault) ⊎ (result ≡ KeeperFault) → ⊥
-unserved result own same (inl less) (inl is) = apart result own DoorFault same (inl (omega (arith, less))) is
-unserved result own same (inl less) (inr is) = apart result own KeeperFault same (inl (omega (arith, less))) is
-unserved result own same (inr more) (inl is) = apart result own DoorFault same (inr (omega (arith, more))) is
-unserved result own same (inr more) (inr is) = apart result own KeeperFault same (inr (omega (arith, more))) is
-
 -- ---- how a replay ends
 
 -- the source failed before the script was whole
-pub replay_unread : (input left held : Option (List ℕ)) (faults faults' sink : ℕ) → Rose faults faults' → ReadsBounded input left
+pub replay_unread : (input left held : Option (List ℕ)) (faults faults' sink : ℕ) → Rose faults faults' → ReadsBounded 16777216 input left
     → Ends replaying ReadFault (input_output input faults held sink) (input_output left faults' held sink)
 replay_unread input left held faults faults' sink rose reads = record {
   done = λ is. cc;
@@ -166,12 +166,12 @@ replay_unread input left held faults faults' sink rose reads = record {
   read_fault = λ is. (rose, (reads.0, [], reads.1, refl, appended_nothing held));
   write_fault = λ is. cc;
   no_memory = λ is. cc;
-  served = λ is. absurd (unserved ReadFault ReadFault refl (inl (omega arith)) is);
+  ended = λ is. absurd is;
   reads = reads;
 }
 
 -- memory ran out before a byte was written
-pub replay_forgone : (input left held : Option (List ℕ)) (faults faults' sink sink' : ℕ) → ReadsBounded input left
+pub replay_forgone : (input left held : Option (List ℕ)) (faults faults' sink sink' : ℕ) → ReadsBounded 16777216 input left
     → Ends replaying NoMemory (input_output input faults held sink) (input_output left faults' held sink')
 replay_forgone input left held faults faults' sink sink' reads = record {
   done = λ is. cc;
@@ -180,7 +180,7 @@ replay_forgone input left held faults faults' sink sink' reads = record {
   read_fault = λ is. cc;
   write_fault = λ is. cc;
   no_memory = λ is. (_, [], text_is_told input, refl, appended_nothing held);
-  served = λ is. absurd (unserved NoMemory NoMemory refl (inr (omega arith)) is);
+  ended = λ is. absurd is;
   reads = reads;
 }
 
@@ -188,7 +188,7 @@ replay_forgone input left held faults faults' sink sink' reads = record {
 pub record IsWritten (input left : Option (List ℕ)) (text : List ℕ) : Type 0 where
   pub read : Consumes input left text
   pub ended : length text ≤ 16777216 → IsAtEnd left
-  pub reads : ReadsBounded input left
+  pub reads : ReadsBounded 16777216 input left
 
 written_part : LongIsRefusedByItsFront → (input left before now : Option (List ℕ)) (faults faults' sink sink' : ℕ) (text answer : List ℕ) (status result : Status)
     → IsWritten input left text → AnswersWith status text answer → Rose sink sink' → (n : ℕ) → Appends before now (take n answer) → result ≡ WriteFault
@@ -200,7 +200,7 @@ written_part law input left before now faults faults' sink sink' text answer sta
   read_fault = λ is. absurd (apart result WriteFault ReadFault fault (inr (omega arith)) is);
   write_fault = λ is. (rose, writes_part law input left before now text answer n status w.read w.ended answers part);
   no_memory = λ is. absurd (apart result WriteFault NoMemory fault (inl (omega arith)) is);
-  served = λ is. absurd (unserved result WriteFault fault (inl (omega arith)) is);
+  ended = λ is. absurd (subst IsEndedOutside fault is);
   reads = w.reads;
 }
 
@@ -214,7 +214,7 @@ written_report law input left before now faults faults' sink sink' text answer r
   read_fault = λ is. absurd (apart result Done ReadFault same (inl (omega arith)) is);
   write_fault = λ is. absurd (apart result Done WriteFault same (inl (omega arith)) is);
   no_memory = λ is. absurd (apart result Done NoMemory same (inl (omega arith)) is);
-  served = λ is. absurd (unserved result Done same (inl (omega arith)) is);
+  ended = λ is. absurd (subst IsEndedOutside same is);
   reads = w.reads;
 }
 
@@ -228,7 +228,7 @@ written_refusal law input left before now faults faults' sink sink' text answer 
   read_fault = λ is. absurd (apart result Refused ReadFault same (inl (omega arith)) is);
   write_fault = λ is. absurd (apart result Refused WriteFault same (inl (omega arith)) is);
   no_memory = λ is. absurd (apart result Refused NoMemory same (inl (omega arith)) is);
-  served = λ is. absurd (unserved result Refused same (inl (omega arith)) is);
+  ended = λ is. absurd (subst IsEndedOutside same is);
   reads = w.reads;
 }
 
@@ -248,6 +248,9 @@ written_by law input left before now faults faults' sink sink' text answer Write
 written_by law input left before now faults faults' sink sink' text answer DoorFault result w answers whole part (inl same) = absurd answers
 written_by law input left before now faults faults' sink sink' text answer KeeperFault result w answers whole part (inl same) = absurd answers
 written_by law input left before now faults faults' sink sink' text answer NoMemory result w answers whole part (inl same) = absurd answers
+written_by law input left before now faults faults' sink sink' text answer ConnectionRefused result w answers whole part (inl same) = absurd answers
+written_by law input left before now faults faults' sink sink' text answer LotsFault result w answers whole part (inl same) = absurd answers
+written_by law input left before now faults faults' sink sink' text answer TurnsDone result w answers whole part (inl same) = absurd answers
 
 pub replay_written : LongIsRefusedByItsFront → (input left before now : Option (List ℕ)) (faults faults' sink sink' : ℕ) (text : List ℕ) (result : Status)
     → IsWritten input left text → Answered text result before now sink sink' → Ends replaying result (input_output input faults before sink) (input_output left faults' now sink')
@@ -267,6 +270,9 @@ replay_ends law input left before now faults faults' sink sink' text Refused w a
 replay_ends law input left before now faults faults' sink sink' text ReadFault w a same = replay_written law input left before now faults faults' sink sink' text ReadFault w (a (λ is. cc))
 replay_ends law input left before now faults faults' sink sink' text DoorFault w a same = replay_written law input left before now faults faults' sink sink' text DoorFault w (a (λ is. cc))
 replay_ends law input left before now faults faults' sink sink' text KeeperFault w a same = replay_written law input left before now faults faults' sink sink' text KeeperFault w (a (λ is. cc))
+replay_ends law input left before now faults faults' sink sink' text ConnectionRefused w a same = replay_written law input left before now faults faults' sink sink' text ConnectionRefused w (a (λ is. cc))
+replay_ends law input left before now faults faults' sink sink' text LotsFault w a same = replay_written law input left before now faults faults' sink sink' text LotsFault w (a (λ is. cc))
+replay_ends law input left before now faults faults' sink sink' text TurnsDone w a same = replay_written law input left before now faults faults' sink sink' text TurnsDone w (a (λ is. cc))
 replay_ends law input left before now faults faults' sink sink' text WriteFault w a same = replay_written law input left before now faults faults' sink sink' text WriteFault w (a (λ is. cc))
 
 -- a task that reads nothing
@@ -294,6 +300,7 @@ reads_nothing waits (Soak seed steps) input = refl
 reads_nothing waits (Check codec) input = task_reads_nothing waits (task.Check codec) input
 reads_nothing waits (Convert from to) input = task_reads_nothing waits (task.Convert from to) input
 reads_nothing waits (Serve asked) input = refl
+reads_nothing waits (Client asked) input = ([], consumed_nothing input, omega arith)
 
 -- ---- how a soak ends, whatever the input is
 
@@ -306,7 +313,7 @@ soak_done seed steps totals input before now faults sink sink' result is whole s
   read_fault = λ other. absurd (apart result Done ReadFault same (inl (omega arith)) other);
   write_fault = λ other. absurd (apart result Done WriteFault same (inl (omega arith)) other);
   no_memory = λ other. absurd (apart result Done NoMemory same (inl (omega arith)) other);
-  served = λ is. absurd (unserved result Done same (inl (omega arith)) is);
+  ended = λ is. absurd (subst IsEndedOutside same is);
   reads = refl;
 }
 
@@ -321,7 +328,7 @@ soak_part seed steps totals input before now faults sink sink' result is rose n 
   write_fault = λ same.
       (rose, (bytes_of input, soak_line seed steps totals, text_is_told input, record { totals = totals; is_soak = is; line_is = refl }, (n, part)));
   no_memory = λ other. absurd (apart result WriteFault NoMemory same (inl (omega arith)) other);
-  served = λ is. absurd (unserved result WriteFault same (inl (omega arith)) is);
+  ended = λ is. absurd (subst IsEndedOutside same is);
   reads = refl;
 }
 
@@ -334,6 +341,6 @@ soak_forgone seed steps input before now faults sink sink' result kept same = re
   read_fault = λ other. absurd (apart result NoMemory ReadFault same (inr (omega arith)) other);
   write_fault = λ other. absurd (apart result NoMemory WriteFault same (inr (omega arith)) other);
   no_memory = λ same. (bytes_of input, [], text_is_told input, refl, subst (λ held. Appends before held []) (sym kept) (appended_nothing before));
-  served = λ is. absurd (unserved result NoMemory same (inr (omega arith)) is);
+  ended = λ is. absurd (subst IsEndedOutside same is);
   reads = refl;
 }

@@ -1,3 +1,5 @@
 pub mod Answering
 pub mod Told
 pub mod Served
+pub mod Dialed
+pub mod Outside

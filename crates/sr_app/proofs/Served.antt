@@ -1,10 +1,10 @@
 -- How serving ends, by what it wrote, heard and asked.
-use Rattle.std.proofs.Common.{◌≡◌, ◌⊎◌, ℕ, true, inl, inr, ⊎_elim, List, [], Option, Result, Ok, Err, refl, sym, subst, ◌∙◌}
+use Rattle.std.proofs.Common.{◌≡◌, ◌⊎◌, ℕ, inl, inr, ⊎_elim, List, [], Option, Result, Ok, Err, refl, sym, subst, ◌∙◌}
 use Rattle.std.specs.Io.KnownBytes.{Appends}
 use Rattle.hw_door.specs.DoorCalls.{DoorCall}
 use Rattle.sr_check.specs.Stream.{IsTouchedByBytesAlone}
 use Rattle.sr_words.specs.declared.commands.Command.{Command}
-use Rattle.sr_words.specs.declared.commands.Command.TheVariants.{Replay, Soak, Check, Convert, Serve}
+use Rattle.sr_words.specs.declared.commands.Command.TheVariants.{Serve}
 use Rattle.sr_words.specs.declared.serving.Serving.{Serving}
 use Rattle.sr_serve.specs.declared.serving.ServeError.{ServeError}
 use Rattle.sr_serve.specs.declared.serving.ServeError.TheVariants as end
@@ -12,7 +12,7 @@ use Rattle.sr_serve.specs.Serving.{serving_line}
 use Rattle.sr_serve.specs.Serving as serve
 use Rattle.sr_app.specs.declared.run.Status.{Status}
 use Rattle.sr_app.specs.declared.run.Status.TheVariants.{WriteFault, DoorFault, KeeperFault, NoMemory}
-use Rattle.sr_app.specs.Run.{Ends, EndsServing, meaning_of, input_output, serving, status_of_end}
+use Rattle.sr_app.specs.Run.{Ends, EndsServing, input_output, serving, status_of_end}
 use Rattle.sr_app.proofs.Told.{bytes_of, appended_nothing, text_is_told}
 
 -- ---- what was written
@@ -27,7 +27,7 @@ ends_by asked Goes b n input faults (Ok done) ends = record {
   read_fault = λ is. cc;
   write_fault = λ is. cc;
   no_memory = λ is. cc;
-  served = λ is. refl;
+  ended = λ is. absurd is;
   reads = refl;
 }
 ends_by asked Goes b n input faults (Err end.Door) ends = record {
@@ -37,7 +37,7 @@ ends_by asked Goes b n input faults (Err end.Door) ends = record {
   read_fault = λ is. cc;
   write_fault = λ is. cc;
   no_memory = λ is. cc;
-  served = λ is. refl;
+  ended = λ is. (tt, (bytes_of input, serving_line ends.0.rows, text_is_told input, (ends.0.rows, refl), ends.0.line));
   reads = refl;
 }
 ends_by asked Goes b n input faults (Err end.Keeper) ends = record {
@@ -47,7 +47,8 @@ ends_by asked Goes b n input faults (Err end.Keeper) ends = record {
   read_fault = λ is. cc;
   write_fault = λ is. cc;
   no_memory = λ is. cc;
-  served = λ is. refl;
+  ended = λ is.
+      (tt, (bytes_of input, [], text_is_told input, refl, subst (λ held. Appends b.holds held []) (sym ends.0.holds) (appended_nothing b.holds)));
   reads = refl;
 }
 ends_by asked Goes b n input faults (Err end.Write) ends = record {
@@ -58,7 +59,7 @@ ends_by asked Goes b n input faults (Err end.Write) ends = record {
   write_fault = λ is.
       (ends.2, (bytes_of input, serving_line ends.0.rows, text_is_told input, (ends.0.rows, refl), (ends.0.n, ends.0.part)));
   no_memory = λ is. cc;
-  served = λ is. refl;
+  ended = λ is. absurd is;
   reads = refl;
 }
 ends_by asked Goes b n input faults (Err end.NoMemory) (inl (nothing, kept), whole, heard) = record {
@@ -69,7 +70,7 @@ ends_by asked Goes b n input faults (Err end.NoMemory) (inl (nothing, kept), who
   write_fault = λ is. cc;
   no_memory = λ is.
       (bytes_of input, [], text_is_told input, inl refl, subst (λ held. Appends b.holds held []) (sym nothing.holds) (appended_nothing b.holds));
-  served = λ is. refl;
+  ended = λ is. absurd is;
   reads = refl;
 }
 ends_by asked Goes b n input faults (Err end.NoMemory) (inr some, whole, heard) = record {
@@ -79,7 +80,7 @@ ends_by asked Goes b n input faults (Err end.NoMemory) (inr some, whole, heard) 
   read_fault = λ is. cc;
   write_fault = λ is. cc;
   no_memory = λ is. (bytes_of input, serving_line some.rows, text_is_told input, inr (some.rows, refl), some.line);
-  served = λ is. refl;
+  ended = λ is. absurd is;
   reads = refl;
 }
 
@@ -148,12 +149,3 @@ pub serving_touches : {K : Type 0} (holds : K → Option (List ℕ)) (old new : 
     → (status ≡ WriteFault → ⊥) → IsTouchedByBytesAlone holds old new
 serving_touches holds old new asked status Goes b n before now ends keeper memory differ =
     touched_by holds old new asked Goes b n ends.0 before now ends.2 (λ is. keeper (ends.1 ∙ is)) (λ is. memory (ends.1 ∙ is)) (λ is. differ (ends.1 ∙ is))
-
--- ---- who serves
-
-pub server_of : (command : Command) → (meaning_of command).serves ≡ true → (asked : Serving) × (command ≡ Serve asked)
-server_of Replay is = cc
-server_of (Soak seed steps) is = cc
-server_of (Check codec) is = cc
-server_of (Convert from to) is = cc
-server_of (Serve asked) is = (asked, refl)

@@ -1,13 +1,16 @@
 -- What the program does with its words and its input, where the source and the sink tell their bytes.
-use Rattle.std.specs.Prelude.{◌≡◌, ◌≢◌, ◌≤◌, ◌+◌, ℕ, Bool, true, false, List, [], length, take, codes, String, Option, ◌⊎◌, Result, Ok, Err}
+use Rattle.std.specs.Prelude.{◌≡◌, ◌≢◌, ◌≤◌, ◌+◌, ℕ, List, [], ◌∷◌, ◌++◌, length, take, codes, String, Option, ◌⊎◌, Result, Ok, Err}
 use Rattle.std.specs.Io.KnownBytes.{Appends, Consumes, IsAtEnd}
 use Rattle.std.specs.declared.alloc.Global.{Global}
 use Rattle.hd_facts.specs.Counts.{Rose}
 use Rattle.hd_facts.specs.Unique.{IsTheOne}
-use Rattle.hd_facts.specs.Writes.{Writes, WritesPart, WritesOfRead}
+use Rattle.hd_facts.specs.Writes.{IsText, Writes, WritesPart, WritesOfRead}
+use Rattle.hd_client.specs.declared.order.Order.{Order}
+use Rattle.hd_client.specs.Setups.{Setup}
 use Rattle.sr_app.specs.declared.run.Status.{Status}
-use Rattle.sr_app.specs.declared.run.Status.TheVariants.{Done, Usage, Refused, ReadFault, WriteFault, DoorFault, KeeperFault, NoMemory}
-use Rattle.hw_door.specs.DoorCalls.{DoorCall}
+use Rattle.sr_app.specs.declared.run.Status.TheVariants.{Done, Usage, Refused, ReadFault, WriteFault, DoorFault, KeeperFault, NoMemory, ConnectionRefused, LotsFault, TurnsDone}
+use Rattle.hw_door.specs.DoorCalls.{DoorCall, flushed}
+use Rattle.hub_server.specs.Resend.{limits_with}
 use Rattle.sr_script.specs.Script.{Program, Parses, IsRefusedAt, refusal_line, most_script}
 use Rattle.sr_replay.specs.Report.{IsReportOf}
 use Rattle.sr_soak.specs.declared.totals.Totals.{Totals}
@@ -18,13 +21,20 @@ use Rattle.sr_check.specs.declared.task.Stop.{Stop}
 use Rattle.sr_check.specs.declared.task.Stop.TheVariants as stop
 use Rattle.sr_check.specs.Stream.{IsDone, IsStopped, IsBegun, IsAllSoFar, IsPart, ReadsNoFurther, most_piece}
 use Rattle.sr_words.specs.declared.commands.Command.{Command}
-use Rattle.sr_words.specs.declared.commands.Command.TheVariants.{Replay, Soak, Check, Convert, Serve}
+use Rattle.sr_words.specs.declared.commands.Command.TheVariants.{Replay, Soak, Check, Convert, Serve, Client}
 use Rattle.sr_words.specs.declared.serving.Serving.{Serving}
+use Rattle.sr_words.specs.declared.dialing.Dialing.{Dialing}
 use Rattle.sr_words.specs.Words.{Asks, IsNoCommand}
 use Rattle.sr_serve.specs.declared.serving.ServeError.{ServeError}
 use Rattle.sr_serve.specs.declared.serving.ServeError.TheVariants as end
 use Rattle.sr_serve.specs.Serving.{serving_line}
 use Rattle.sr_serve.specs.Serving as serve
+use Rattle.sr_client.specs.declared.client.ClientError.{ClientError}
+use Rattle.sr_client.specs.declared.client.ClientError.TheVariants as over
+use Rattle.sr_client.specs.Grammar.{RefusesText}
+use Rattle.sr_client.specs.Grammar as client
+use Rattle.sr_client.specs.Running.{Faults, HasRun, IsCausedBy, IsSetup, WentSo, faults}
+use Rattle.sr_script.specs.declared.script.ScriptError.TheVariants.{Line}
 
 abbrev pub usage_line : List ℕ
 usage_line = codes "usage: sr replay, soak, serve, client, check or convert\n"
@@ -39,6 +49,18 @@ code_of WriteFault = 4
 code_of DoorFault = 5
 code_of KeeperFault = 6
 code_of NoMemory = 7
+code_of ConnectionRefused = 8
+code_of LotsFault = 9
+code_of TurnsDone = 10
+
+-- what is outside ended it: the door or the dialer, the keeper, the other side, the lots, or the number of its turns
+abbrev pub IsEndedOutside : Status → Type 0
+IsEndedOutside DoorFault = Unit {0}
+IsEndedOutside KeeperFault = Unit {0}
+IsEndedOutside ConnectionRefused = Unit {0}
+IsEndedOutside LotsFault = Unit {0}
+IsEndedOutside TurnsDone = Unit {0}
+IsEndedOutside status = ⊥
 
 -- ---- what a command means
 
@@ -60,10 +82,10 @@ pub record Meaning : Type 1 where
   pub read : Answers
   -- what the input has left before and after
   pub reads : Option (List ℕ) → Option (List ℕ) → Type 0
-  -- what it has left once the command is done
+  -- what it has left once the command is done, or is ended from outside
   pub leaves : Option (List ℕ) → Type 0
-  -- it hears through a door and asks a keeper, which may fail
-  pub serves : Bool
+  -- what is outside ended it with this status: what was written until then
+  pub ended : Status → Answers
 
 -- the text is a script, which asks for one program, and this is a report of that: the one there is, if it has no peers
 pub record IsReplayed (text report : List ℕ) : Type 0 where
@@ -91,9 +113,13 @@ AnswersWith _ text answer = ⊥
 abbrev pub IsNothing : Answers
 IsNothing text answer = answer ≡ []
 
--- of the bytes that are told no more were read than a script may have, and one piece
-abbrev pub ReadsBounded : Option (List ℕ) → Option (List ℕ) → Type 0
-ReadsBounded before now = (taken : List ℕ) × Consumes before now taken × (length taken ≤ most_script + most_piece)
+-- it never comes to this
+abbrev pub Never : Answers
+Never text answer = ⊥
+
+-- of the bytes that are told no more were read than a script may have at most, and one piece
+abbrev pub ReadsBounded : ℕ → Option (List ℕ) → Option (List ℕ) → Type 0
+ReadsBounded most before now = (taken : List ℕ) × Consumes before now taken × (length taken ≤ most + most_piece)
 
 -- A replay writes nothing before it has read its script whole.
 abbrev pub replaying : Meaning
@@ -103,9 +129,9 @@ replaying = record {
   part = IsTextAnswer;
   begun = IsNothing;
   read = IsNothing;
-  reads = ReadsBounded;
+  reads = ReadsBounded most_script;
   leaves = IsAtEnd;
-  serves = false;
+  ended = λ status. Never;
 }
 
 -- A task over frames writes of each frame before it has read the next piece.
@@ -118,7 +144,7 @@ doing task = record {
   read = IsAllSoFar task;
   reads = ReadsNoFurther task;
   leaves = IsAtEnd;
-  serves = false;
+  ended = λ status. Never;
 }
 
 -- a soak of this seed and so many steps, whatever the input is, and its line
@@ -126,10 +152,6 @@ pub record IsSoaked (seed steps : ℕ) (text line : List ℕ) : Type 0 where
   pub totals : Totals
   pub is_soak : IsSoak seed steps totals
   pub line_is : line ≡ soak_line seed steps totals
-
--- no input is refused, and none fails
-abbrev pub Never : Answers
-Never text answer = ⊥
 
 -- A soak reads nothing.
 abbrev pub soaking : ℕ → ℕ → Meaning
@@ -141,12 +163,18 @@ soaking seed steps = record {
   read = Never;
   reads = λ before now. now ≡ before;
   leaves = λ left. Unit {0};
-  serves = false;
+  ended = λ status. Never;
 }
 
 -- the line with which serving begins, whatever the input is
 abbrev pub IsServing : Answers
 IsServing text line = (rows : ℕ) × (line ≡ serving_line rows)
+
+-- its line stands where the door failed. The keeper is asked before
+abbrev pub IsServingUntil : Status → Answers
+IsServingUntil DoorFault = IsServing
+IsServingUntil KeeperFault = IsNothing
+IsServingUntil status = Never
 
 -- Serving reads nothing. Memory may run out before its line and after it.
 abbrev pub serving : Meaning
@@ -158,7 +186,53 @@ serving = record {
   read = Never;
   reads = λ before now. now ≡ before;
   leaves = λ left. Unit {0};
-  serves = true;
+  ended = IsServingUntil;
+}
+
+-- the status that goes with how a client's run ended
+abbrev pub status_of_client : ClientError → Status
+status_of_client over.Refused = ConnectionRefused
+status_of_client over.Dial = DoorFault
+status_of_client over.Write = WriteFault
+status_of_client over.Lots = LotsFault
+status_of_client over.NoMemory = NoMemory
+status_of_client over.Turns = TurnsDone
+
+abbrev pub status_of_run : Result Unit ClientError → Status
+status_of_run (Ok done) = Done
+status_of_run (Err error) = status_of_client error
+
+-- a client is begun as it is asked for
+abbrev pub IsAskedFor : Dialing → Setup → Type 0
+IsAskedFor asked s = IsSetup s asked.address asked.codec (limits_with asked.resend)
+
+-- the text is a client's script, and this is what a client prints that runs it and ends with this status
+pub record IsPrinted (asked : Dialing) (status : Status) (text lines : List ℕ) : Type 0 where
+  pub orders : List Order
+  pub script : IsTheOne (client.Parses text) orders
+  pub ran : Result Unit ClientError
+  pub status_is : status ≡ status_of_run ran
+  pub setup : Setup
+  pub is_asked_for : IsAskedFor asked setup
+  pub runs : HasRun setup orders (λ last told. lines ≡ told.printed) asked.turns ran
+
+-- the text is no script of a client, and this is its refusal
+pub record IsNoScript (text answer : List ℕ) : Type 0 where
+  pub number : ℕ
+  pub refuses : RefusesText (Line number) text
+  pub line : answer ≡ refusal_line number
+
+-- A client dials, and writes, once it has read its script whole.
+abbrev pub dialing : Dialing → Meaning
+dialing asked = record {
+  done = IsPrinted asked Done;
+  refused = IsNoScript;
+  part = λ text answer. IsPrinted asked WriteFault text answer ⊎ IsNoScript text answer;
+  begun = λ text answer. IsNothing text answer ⊎ IsPrinted asked NoMemory text answer;
+  read = IsNothing;
+  reads = ReadsBounded client.most_script;
+  leaves = IsAtEnd;
+  ended = IsPrinted asked;
 }
 
 -- what each command means
@@ -168,6 +242,7 @@ meaning_of (Soak seed steps) = soaking seed steps
 meaning_of (Check codec) = doing (task.Check codec)
 meaning_of (Convert from to) = doing (task.Convert from to)
 meaning_of (Serve asked) = serving
+meaning_of (Client asked) = dialing asked
 
 -- the command reads no input
 abbrev pub ReadsNothing : Command → Type 0
@@ -175,10 +250,21 @@ ReadsNothing (Soak seed steps) = Unit {0}
 ReadsNothing (Serve asked) = Unit {0}
 ReadsNothing command = ⊥
 
--- the command leaves door, keeper and lots alone
+-- the command leaves door and keeper alone
 abbrev pub ServesNothing : Command → Type 0
 ServesNothing (Serve asked) = ⊥
 ServesNothing command = Unit {0}
+
+-- the command leaves the dialer alone
+abbrev pub DialsNothing : Command → Type 0
+DialsNothing (Client asked) = ⊥
+DialsNothing command = Unit {0}
+
+-- the command draws no lots if it ends with this status
+abbrev pub DrawsNothing : Command → ℕ → Type 0
+DrawsNothing (Serve asked) status = (status ≡ code_of WriteFault) ⊎ (status ≡ code_of KeeperFault)
+DrawsNothing (Client asked) status = ⊥
+DrawsNothing command status = Unit {0}
 
 -- the command writes its whole answer at once, once it is known
 abbrev pub WritesOnce : Command → Type 0
@@ -218,7 +304,7 @@ pub record Ends (m : Meaning) (status : Status) (before now : InputOutput) : Typ
   pub write_fault : status ≡ WriteFault → Rose before.sink_faults now.sink_faults
       × WritesPart m.part before.left before.holds now.holds
   pub no_memory : status ≡ NoMemory → Writes m.begun before.left before.holds now.holds
-  pub served : (status ≡ DoorFault) ⊎ (status ≡ KeeperFault) → m.serves ≡ true
+  pub ended : IsEndedOutside status → m.leaves now.left × Writes (m.ended status) before.left before.holds now.holds
   pub reads : m.reads before.left now.left
 
 -- No fault is passed over: a count of faults rises only if the status tells of that fault.
@@ -260,3 +346,37 @@ status_of_end (Err error) = status_of_error error
 abbrev pub EndsServing : Serving → Status → (List DoorCall → Type 0) → serve.Environment → serve.Environment → Type 0
 EndsServing asked status Goes before now =
     (result : Result Unit ServeError) × (status ≡ status_of_end result) × serve.Ends asked.base asked.resend asked.live asked.turns Goes before now result
+
+-- what a client's lots and output tell of themselves, and how often its dialer and these have failed
+pub record DialEnvironment : Type 0 where
+  pub drawn : Option (List (Option (List ℕ)))
+  pub holds : Option (List ℕ)
+  pub failed : Faults
+
+abbrev pub dial_environment : Option (List (Option (List ℕ))) → Option (List ℕ) → Faults → DialEnvironment
+dial_environment drawn holds failed = record { drawn = drawn; holds = holds; failed = failed }
+
+-- The input is a script, and a client that is begun as it is asked for ran it, which ended so. Its dialer was flushed last
+pub record HasDialed (asked : Dialing) (Goes : List DoorCall → Type 0) (input : Option (List ℕ)) (before now : DialEnvironment) (ran : Result Unit ClientError) : Type 0 where
+  pub text : List ℕ
+  pub told : IsText input text
+  pub orders : List Order
+  pub script : IsTheOne (client.Parses text) orders
+  pub runs : (s : Setup) → IsAskedFor asked s → HasRun s orders
+      (WentSo (λ calls. Goes (calls ++ flushed ∷ [])) before.drawn now.drawn before.holds now.holds) asked.turns ran
+  pub cause : IsCausedBy before.failed now.failed ran
+
+-- the script wasn't read whole, or is none, and this was written
+abbrev pub EndsUndialed : Status → Option (List ℕ) → DialEnvironment → DialEnvironment → Type 0
+EndsUndialed Refused input before now = Writes IsNoScript input before.holds now.holds × (now.failed ≡ before.failed)
+EndsUndialed WriteFault input before now = WritesPart IsNoScript input before.holds now.holds
+    × Rose before.failed.output now.failed.output × (now.failed ≡ faults before.failed.dialer before.failed.lots now.failed.output)
+EndsUndialed ReadFault input before now = Appends before.holds now.holds [] × (now.failed ≡ before.failed)
+EndsUndialed NoMemory input before now = Appends before.holds now.holds [] × (now.failed ≡ before.failed)
+EndsUndialed status input before now = ⊥
+
+-- what a client did that ended with this status: it ran, or `IsUndialed` holds of its dialer and its lots
+abbrev pub EndsDialing : Dialing → Status → (List DoorCall → Type 0) → Type 0 → Option (List ℕ) → DialEnvironment → DialEnvironment → Type 0
+EndsDialing asked status Goes IsUndialed input before now =
+    ((ran : Result Unit ClientError) × (status ≡ status_of_run ran) × HasDialed asked Goes input before now ran)
+    ⊎ (EndsUndialed status input before now × IsUndialed)

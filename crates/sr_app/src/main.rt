@@ -1,4 +1,4 @@
-//! The program `sr`: it replays scripts over two ends, checks and converts frames of messages, and serves hubs.
+//! The program `sr`: it replays scripts over two ends, checks and converts frames of messages, serves hubs, and is a client of them.
 #![tactic(auto)]
 
 mod run;
@@ -7,14 +7,14 @@ use crate::run::{Status, run};
 use hd_server::LiveLimit;
 use hk_latest::LatestKeeper;
 use hv_value::Text;
-use hw_door::{Door, MemoryDoor, RandLots};
+use hw_door::{Address, Dialer, Door, MemoryDialer, MemoryDoor, RandLots, Wires};
 use hw_io::{StdSink, StdSource};
 use hw_mio::MioWires;
-use hw_net::NetDoor;
+use hw_net::{NetDialer, NetDoor};
 use libc::types::rlimit;
 use libc::{RLIMIT_NOFILE, getrlimit};
 use sr_words::{Settings, WordsError, complaint, settings};
-use std::alloc::AllocError;
+use std::alloc::{AllocError, Global};
 use std::net::SocketAddr;
 use std::process::ExitCode;
 use std::{env, io};
@@ -22,6 +22,9 @@ use std::{env, io};
 /// How many descriptors a server has beside those of its live connections: of its input and output, its listener, and lanes that begin
 /// or end.
 const OTHER_DESCRIPTORS: u64 = 64;
+
+/// How long what a client said last may take to be written, in milliseconds.
+const LAST_WRITES: u64 = 2_000;
 
 /// The words of the command line, without the program's name. Where one of them isn't UTF-8 they are no command, as
 /// if there were none.
@@ -66,7 +69,7 @@ fn run_at(
         warn_of_descriptors(rt, live.most());
     }
     let mut door = NetDoor::start(alloc, wires);
-    let status = run_over(rt, words, &mut door)?;
+    let status = run_over(rt, words, &mut door, &mut undialed(alloc))?;
     if status == Status::DoorFault.code()
         && let Some(why) = door.wires().start_error()
     {
@@ -75,8 +78,58 @@ fn run_at(
     Ok(status)
 }
 
-/// Runs a command over this door, a keeper of the latest rows, which knows nobody, and the lots of the system.
-fn run_over<D: Door>(rt: &HostRuntime, words: &[String], door: &mut D) -> Result<u8, AllocError> {
+/// Runs `client` over sockets that dial this address, and lets what it said last be written. If the system has no sockets for it, the reason is
+/// written on standard error.
+fn run_dialing(rt: &HostRuntime, words: &[String], address: Address) -> Result<u8, AllocError> {
+    let alloc = rt.alloc();
+    let mut addresses = Vec::new(alloc);
+    addresses.push(address)?;
+    let mut dialer = NetDialer::start(alloc, MioWires::dialing(rt, alloc)?, addresses);
+    let status = run_over(rt, words, &mut unheard(alloc), &mut dialer)?;
+    if status == Status::DoorFault.code()
+        && let Some(why) = dialer.wires().start_error()
+    {
+        let _ = eprintln!(rt; "sr: {why}");
+    }
+    write_rest(&mut dialer);
+    Ok(status)
+}
+
+/// Hears until all that was said is written, for at most 2,000 ms. Nobody is told what is heard.
+fn write_rest<W: Wires + Drop>(dialer: &mut NetDialer<W>) {
+    let Ok(first) = dialer.next(0) else {
+        return;
+    };
+    let end = first.now.saturating_add(LAST_WRITES);
+    let mut left = LAST_WRITES;
+    for _heard in 0..u64::MAX {
+        if left == 0 || !dialer.has_unwritten() {
+            return;
+        }
+        match dialer.next(left) {
+            Ok(heard) => left = end.saturating_sub(heard.now),
+            Err(_) => return,
+        }
+    }
+}
+
+/// A door at which nothing is heard.
+fn unheard(alloc: Global) -> MemoryDoor {
+    MemoryDoor::start(Vec::new(alloc), Vec::new(alloc), Vec::new(alloc))
+}
+
+/// A dialer at which nothing is heard.
+fn undialed(alloc: Global) -> MemoryDialer {
+    MemoryDialer::start(Vec::new(alloc), Vec::new(alloc), Vec::new(alloc))
+}
+
+/// Runs a command over this door, this dialer, a keeper of the latest rows, which knows nobody, and the lots of the system.
+fn run_over<D: Door, C: Dialer>(
+    rt: &HostRuntime,
+    words: &[String],
+    door: &mut D,
+    dialer: &mut C,
+) -> Result<u8, AllocError> {
     let alloc = rt.alloc();
     let mut input = StdSource::new(rt.stdin());
     let mut out = StdSink::new(rt.stdout());
@@ -88,6 +141,7 @@ fn run_over<D: Door>(rt: &HostRuntime, words: &[String], door: &mut D) -> Result
         &mut input,
         &mut out,
         door,
+        dialer,
         &mut keeper,
         &mut lots,
     ))
@@ -100,12 +154,12 @@ fn complain(rt: &HostRuntime, words: &[String]) -> Result<(), AllocError> {
     Ok(())
 }
 
-/// Makes the door that the words ask for: sockets for `serve`, and for every other command one at which nothing is heard.
+/// Makes the door or the dialer that the words ask for: sockets for `serve` and for `client`, and for every other command what hears nothing.
 fn run_words(rt: &HostRuntime) -> Result<u8, AllocError> {
     let alloc = rt.alloc();
     let words = words(rt)?;
     match settings(alloc, &words) {
-        Ok(settings) => run_settings(rt, &words, &settings),
+        Ok(settings) => run_settings(rt, &words, settings),
         Err(WordsError::NoCommand) => {
             complain(rt, &words)?;
             run_unheard(rt, &words)
@@ -114,27 +168,28 @@ fn run_words(rt: &HostRuntime) -> Result<u8, AllocError> {
     }
 }
 
-/// Runs a command with these settings, which only `serve` has.
-fn run_settings(rt: &HostRuntime, words: &[String], settings: &Settings) -> Result<u8, AllocError> {
-    let (Some(port), Some(base), Some(ip), Some(live)) = (
-        settings.port,
-        settings.base.as_ref(),
-        settings.listen,
-        settings.live,
-    ) else {
+/// Runs a command with these settings: `client` has an address, `serve` all the others, and every other command none.
+fn run_settings(rt: &HostRuntime, words: &[String], settings: Settings) -> Result<u8, AllocError> {
+    let Settings {
+        port,
+        base,
+        listen,
+        live,
+        address,
+    } = settings;
+    if let Some(address) = address {
+        return run_dialing(rt, words, address);
+    }
+    let (Some(port), Some(base), Some(ip), Some(live)) = (port, base, listen, live) else {
         return run_unheard(rt, words);
     };
-    run_at(rt, words, SocketAddr::new(ip, port), base, live)
+    run_at(rt, words, SocketAddr::new(ip, port), &base, live)
 }
 
-/// Runs a command over a door at which nothing is heard.
+/// Runs a command over a door and a dialer at which nothing is heard.
 fn run_unheard(rt: &HostRuntime, words: &[String]) -> Result<u8, AllocError> {
     let alloc = rt.alloc();
-    run_over(
-        rt,
-        words,
-        &mut MemoryDoor::start(Vec::new(alloc), Vec::new(alloc), Vec::new(alloc)),
-    )
+    run_over(rt, words, &mut unheard(alloc), &mut undialed(alloc))
 }
 
 fn main(rt: HostRuntime) -> ExitCode {

@@ -1,28 +1,31 @@
 //! What the program does: the command that its words ask for, from its input to its exit status.
 
-ghost use Rattle.std.specs.Prelude.{◌≡◌, ◌≢◌, ◌≤◌, ◌+◌, ◌⊎◌, ℕ, IfOk, Err, List, [], Option, length, take};
+ghost use Rattle.std.specs.Prelude.{◌≡◌, ◌≢◌, ◌≤◌, ◌+◌, ◌⊎◌, ℕ, IfOk, Err, List, [], Option, Some, length, take};
 ghost use Rattle.std.specs.Io.KnownBytes.{Appends, Consumes, IsAtEnd};
 ghost use Rattle.hd_facts.specs.Counts.{Rose};
 ghost use Rattle.hd_facts.specs.Writes.{Writes, WritesOfRead};
 ghost use Rattle.sr_check.specs.Stream.{IsTouchedByBytesAlone, most_piece};
 ghost use Rattle.sr_words.specs.Words.{Asks, IsNoCommand};
-ghost use Rattle.sr_words.specs.declared.commands.Command.TheVariants.{Serve};
+ghost use Rattle.sr_words.specs.declared.commands.Command.TheVariants.{Client, Serve};
+ghost use Rattle.sr_words.specs.declared.dialing.Dialing.{Dialing};
 ghost use Rattle.sr_words.specs.declared.serving.Serving.{Serving};
 ghost use Rattle.hub_server.specs.Steps.{outside};
 ghost use Rattle.sr_serve.specs.Serving.{environment, serving_line};
-ghost use Rattle.sr_app.specs.Run.{Answered, AsksFor, Ends, EndsServing, ReadsBounded, ReadsNothing, ServesNothing, TellsFaults, WritesOnce, WritesPartFor, code_of, doing, meaning_of, input_output, replaying, soaking, usage_line};
-ghost use Rattle.sr_script.specs.Script.{most_script, refusal_line};
+ghost use Rattle.sr_client.specs.Running.{faults};
+ghost use Rattle.sr_app.specs.Run.{Answered, AsksFor, DialsNothing, DrawsNothing, Ends, EndsDialing, EndsServing, IsEndedOutside, ReadsBounded, ReadsNothing, ServesNothing, TellsFaults, WritesOnce, WritesPartFor, code_of, dial_environment, dialing, doing, meaning_of, input_output, replaying, soaking, usage_line};
+ghost use Rattle.sr_script.specs.Script.{refusal_line};
 
 use hf_split::empty_waits;
 use hk_keeper::Keeper;
-use hw_door::{Door, Lots};
+use hw_door::{Dialer, Door, Lots};
 use hw_io::{Failed, Sink, Source};
 use sr_check::{Stop, Task};
+use sr_client::{ClientError, long_scripts_are_refused_by_their_front};
 use sr_replay::{ReplayError, replay, reports_have_lines};
 use sr_script::{MOST_SCRIPT, ScriptError, long_is_refused_by_its_front, parse};
 use sr_serve::{ServeError, serve_hub};
 use sr_soak::soak;
-use sr_words::{Command, Serving, WordsError};
+use sr_words::{Command, Dialing, Serving, WordsError};
 use std::alloc::{AllocError, Global};
 
 const USAGE: &[u8] = b"usage: sr replay, soak, serve, client, check or convert\n";
@@ -41,6 +44,9 @@ pub(crate) enum Status {
     DoorFault = 5,
     KeeperFault = 6,
     NoMemory = 7,
+    ConnectionRefused = 8,
+    LotsFault = 9,
+    TurnsDone = 10,
 }
 
 impl Status {
@@ -59,18 +65,18 @@ enum ReadError {
     NoMemory,
 }
 
-/// Reads a source to its end or, if it has more bytes than a script may have, past that many.
-fn read_all<S: Source>(alloc: Global, input: &mut S) -> Result<Vec<u8>, ReadError>
+/// Reads a source to its end or, if it has more than `most` bytes, past that many.
+fn read_all<S: Source>(alloc: Global, most: usize, input: &mut S) -> Result<Vec<u8>, ReadError>
     ensures read { IfOk result (λ text. Consumes (S.left input.old) (S.left input.new) text.items) }
-    ensures short { IfOk result (λ text. length text.items ≤ most_script + most_piece) }
-    ensures bounded { ReadsBounded (S.left input.old) (S.left input.new) }
-    ensures ended { IfOk result (λ text. length text.items ≤ most_script → IsAtEnd (S.left input.new)) }
+    ensures short { IfOk result (λ text. length text.items ≤ most + most_piece) }
+    ensures bounded { ReadsBounded most (S.left input.old) (S.left input.new) }
+    ensures ended { IfOk result (λ text. length text.items ≤ most → IsAtEnd (S.left input.new)) }
     ensures failed { result ≡ Err ReadError.Failed → Rose (S.faults input.old) (S.faults input.new) }
     ensures unfailed { result ≢ Err ReadError.Failed → S.faults input.new ≡ S.faults input.old }
 {
     let mut text = Vec::new(alloc);
     let mut piece = [0u8; PIECE];
-    while text.len() <= MOST_SCRIPT {
+    while text.len() <= most {
         match input.take(&mut piece) {
             Ok(0) => return Ok(text),
             Ok(count) => {
@@ -152,7 +158,7 @@ fn run_replay<S: Source, K: Sink>(alloc: Global, input: &mut S, out: &mut K) -> 
     ensures untouched { (result ≡ Status.ReadFault) ⊎ (result ≡ Status.NoMemory) → out.new ≡ out.old }
 {
     long_is_refused_by_its_front();
-    match read_all(alloc, input) {
+    match read_all(alloc, MOST_SCRIPT, input) {
         Ok(text) => answer(alloc, &text, out),
         Err(ReadError::Failed) => Status::ReadFault,
         Err(ReadError::NoMemory) => Status::NoMemory,
@@ -258,13 +264,96 @@ fn run_serve<K: Sink, D: Door, R: Keeper, L: Lots>(
     }
 }
 
+impl From<ClientError> for Status {
+    ghost use Rattle.std.specs.Prelude.{◌≡◌};
+    ghost use Rattle.sr_app.specs.Run.{status_of_client};
+
+    ghost from_gives = { λ error status. status ≡ status_of_client error };
+
+    fn from(error: ClientError) -> Status {
+        match error {
+            ClientError::Refused => Status::ConnectionRefused,
+            ClientError::Dial => Status::DoorFault,
+            ClientError::Write => Status::WriteFault,
+            ClientError::Lots => Status::LotsFault,
+            ClientError::NoMemory => Status::NoMemory,
+            ClientError::Turns => Status::TurnsDone,
+        }
+    }
+}
+
+/// Runs a script as a client, or writes where the text stops being one.
+fn dial<K: Sink, C: Dialer, L: Lots>(
+    alloc: Global,
+    asked: Dialing,
+    text: &[u8],
+    out: &mut K,
+    dialer: &mut C,
+    lots: &mut L,
+) -> Status
+    ensures dials { EndsDialing asked result (λ calls. C.Goes dialer.old calls dialer.new) ((dialer.new ≡ dialer.old) × (lots.new ≡ lots.old)) (Some text.now)
+        (dial_environment (L.drawn lots.old) (K.holds out.old) (faults (C.faults dialer.old) (L.faults lots.old) (K.faults out.old)))
+        (dial_environment (L.drawn lots.new) (K.holds out.new) (faults (C.faults dialer.new) (L.faults lots.new) (K.faults out.new))) }
+    ensures touched { result ≢ Status.WriteFault → IsTouchedByBytesAlone K.holds out.old out.new }
+    ensures read { result ≢ Status.ReadFault }
+{
+    let script = match sr_client::parse(alloc, text) {
+        Ok(script) => script,
+        Err(ScriptError::Line(number)) => return refuse(alloc, number, out),
+        Err(ScriptError::NoMemory) => return Status::NoMemory,
+    };
+    let limits = asked.resend.limits();
+    match sr_client::run_client(
+        alloc,
+        script,
+        &asked.address,
+        asked.codec,
+        limits,
+        dialer,
+        lots,
+        out,
+        asked.turns,
+    ) {
+        Ok(()) => Status::Done,
+        Err(error) => Status::from(error),
+    }
+}
+
+/// Runs the script that the input holds, as a client. It is read whole before anybody is dialed.
+fn run_dialing<S: Source, K: Sink, C: Dialer, L: Lots>(
+    alloc: Global,
+    asked: Dialing,
+    input: &mut S,
+    out: &mut K,
+    dialer: &mut C,
+    lots: &mut L,
+) -> Status
+    ensures ends { Ends (dialing asked) result
+        (input_output (S.left input.old) (S.faults input.old) (K.holds out.old) (K.faults out.old))
+        (input_output (S.left input.new) (S.faults input.new) (K.holds out.new) (K.faults out.new)) }
+    ensures source_unfailed { result ≢ Status.ReadFault → S.faults input.new ≡ S.faults input.old }
+    ensures touched { result ≢ Status.WriteFault → IsTouchedByBytesAlone K.holds out.old out.new }
+    ensures dials { EndsDialing asked result (λ calls. C.Goes dialer.old calls dialer.new) ((dialer.new ≡ dialer.old) × (lots.new ≡ lots.old)) (S.left input.old)
+        (dial_environment (L.drawn lots.old) (K.holds out.old) (faults (C.faults dialer.old) (L.faults lots.old) (K.faults out.old)))
+        (dial_environment (L.drawn lots.new) (K.holds out.new) (faults (C.faults dialer.new) (L.faults lots.new) (K.faults out.new))) }
+{
+    he_wire::has_wire();
+    long_scripts_are_refused_by_their_front();
+    match read_all(alloc, sr_client::MOST_SCRIPT, input) {
+        Ok(text) => dial(alloc, asked, &text, out, dialer, lots),
+        Err(ReadError::Failed) => Status::ReadFault,
+        Err(ReadError::NoMemory) => Status::NoMemory,
+    }
+}
+
 /// Carries out a command.
-fn carry_out<S: Source, K: Sink, D: Door, R: Keeper, L: Lots>(
+fn carry_out<S: Source, K: Sink, D: Door, C: Dialer, R: Keeper, L: Lots>(
     alloc: Global,
     command: Command,
     input: &mut S,
     out: &mut K,
     door: &mut D,
+    dialer: &mut C,
     keeper: &mut R,
     lots: &mut L,
 ) -> Status
@@ -282,11 +371,17 @@ fn carry_out<S: Source, K: Sink, D: Door, R: Keeper, L: Lots>(
         (outside (R.holds keeper.old) (R.answers keeper.old) (R.faults keeper.old) (L.drawn lots.old) (L.faults lots.old)))
         (environment (K.holds out.new) (K.faults out.new) (D.moment door.new) (D.faults door.new)
         (outside (R.holds keeper.new) (R.answers keeper.new) (R.faults keeper.new) (L.drawn lots.new) (L.faults lots.new))) }
+    ensures dials { (asked : Dialing) → command ≡ Client asked → EndsDialing asked result (λ calls. C.Goes dialer.old calls dialer.new) ((dialer.new ≡ dialer.old) × (lots.new ≡ lots.old)) (S.left input.old)
+        (dial_environment (L.drawn lots.old) (K.holds out.old) (faults (C.faults dialer.old) (L.faults lots.old) (K.faults out.old)))
+        (dial_environment (L.drawn lots.new) (K.holds out.new) (faults (C.faults dialer.new) (L.faults lots.new) (K.faults out.new))) }
     ensures unwritten { result ≡ Status.KeeperFault → out.new ≡ out.old }
-    ensures unheard { ServesNothing command ⊎ (result ≡ Status.KeeperFault) ⊎ (result ≡ Status.WriteFault)
-        → (door.new ≡ door.old) × (lots.new ≡ lots.old) }
+    ensures unheard { ServesNothing command ⊎ (result ≡ Status.KeeperFault) ⊎ (result ≡ Status.WriteFault) → door.new ≡ door.old }
     ensures unasked { ServesNothing command → keeper.new ≡ keeper.old }
+    ensures undialed { DialsNothing command → dialer.new ≡ dialer.old }
+    ensures undrawn { DrawsNothing command (code_of result) → lots.new ≡ lots.old }
     ensures door_unfailed { result ≢ Status.DoorFault → D.faults door.new ≡ D.faults door.old }
+    ensures dialer_unfailed { result ≢ Status.DoorFault → C.faults dialer.new ≡ C.faults dialer.old }
+    ensures lots_unfailed { (asked : Dialing) → command ≡ Client asked → result ≢ Status.LotsFault → L.faults lots.new ≡ L.faults lots.old }
 {
     match command {
         Command::Replay => run_replay(alloc, input, out),
@@ -294,36 +389,46 @@ fn carry_out<S: Source, K: Sink, D: Door, R: Keeper, L: Lots>(
         Command::Check { codec } => run_task(alloc, Task::Check { codec }, input, out),
         Command::Convert { from, to } => run_task(alloc, Task::Convert { from, to }, input, out),
         Command::Serve(serving) => run_serve(alloc, serving, out, door, keeper, lots),
+        Command::Client(asked) => run_dialing(alloc, asked, input, out, dialer, lots),
     }
 }
 
 /// Does what the words say, over this input and this output, and answers the exit status. `serve` hears through the door, asks the keeper
-/// and draws the lots; the other commands leave them alone.
+/// and draws the lots; `client` dials through the dialer and draws the lots; the other commands leave them alone.
 ///
 /// | status | if |
 /// |---|---|
 /// | 0 | the input, if the command asks for one, is what it asks for; its whole answer was written. `serve`: all of its turns were done |
+/// | | `client`: its script is at its end, no call is live, and its end is closed |
 /// | 1 | the words are no command; the usage line was written |
 /// | 2 | the input is refused; what is written of the frames before, and the refusal, was written |
 /// | 3 | the input failed; nothing was written but what is written of the frames that were read |
 /// | 4 | the output failed; it took a first part of what was to be written |
-/// | 5 | `serve`: the door failed; what it was given before stands |
+/// | 5 | `serve`: the door failed; `client`: the dialer failed; what it was given before stands |
 /// | 6 | `serve`: the keeper failed when it was asked how many rows there are; nothing was written or heard |
 /// | 7 | out of memory; nothing was written but what is written of some frames that were read, or the line with which `serve` begins |
+/// | | `client`: nothing was written but what it printed before |
+/// | 8 | `client`: the server refused it or closed the connection, what came can't be read, or the connection was lost for good |
+/// | 9 | `client`: the lots failed |
+/// | 10 | `client`: all its turns were done first |
 ///
-/// A fault of the input ends it with 3 and one of the output with 4: none is passed over. One of the door ends it with 5: after the first call of
-/// the door that failed it is only flushed. A fault of the keeper at any other question, or of the lots, ends nothing, but that memory may be
-/// out then.
-pub fn run<S: Source, K: Sink, D: Door, R: Keeper, L: Lots>(
+/// A fault of the input ends it with 3 and one of the output with 4: none is passed over. One of the door or the dialer ends it with 5: after the
+/// first call of it that failed it is only flushed. A fault of the keeper at any other question, or under `serve` of the lots, ends nothing, but that
+/// memory may be out then.
+///
+/// `client` reads its script whole before it dials or draws anything.
+pub fn run<S: Source, K: Sink, D: Door, C: Dialer, R: Keeper, L: Lots>(
     alloc: Global,
     words: &[String],
     input: &mut S,
     out: &mut K,
     door: &mut D,
+    dialer: &mut C,
     keeper: &mut R,
     lots: &mut L,
 ) -> u8
-    ensures status { (result ≡ 0) ⊎ (result ≡ 1) ⊎ (result ≡ 2) ⊎ (result ≡ 3) ⊎ (result ≡ 4) ⊎ (result ≡ 5) ⊎ (result ≡ 6) ⊎ (result ≡ 7) }
+    ensures status { (result ≡ 0) ⊎ (result ≡ 1) ⊎ (result ≡ 2) ⊎ (result ≡ 3) ⊎ (result ≡ 4) ⊎ (result ≡ 5) ⊎ (result ≡ 6) ⊎ (result ≡ 7)
+        ⊎ (result ≡ 8) ⊎ (result ≡ 9) ⊎ (result ≡ 10) }
 
     ensures done { result ≡ 0
         → AsksFor words.now (λ m. m.leaves (S.left input.new) × Writes m.done (S.left input.old) (K.holds out.old) (K.holds out.new)) }
@@ -338,6 +443,8 @@ pub fn run<S: Source, K: Sink, D: Door, R: Keeper, L: Lots>(
         × WritesPartFor words.now (S.left input.old) (K.holds out.old) (K.holds out.new) }
     ensures no_memory { result ≡ 7 → (out.new ≡ out.old)
         ⊎ AsksFor words.now (λ m. Writes m.begun (S.left input.old) (K.holds out.old) (K.holds out.new)) }
+    ensures ended { (status : Status) → IsEndedOutside status → result ≡ code_of status
+        → AsksFor words.now (λ m. m.leaves (S.left input.new) × Writes (m.ended status) (S.left input.old) (K.holds out.old) (K.holds out.new)) }
 
     // What `serve` did, by its status: so 5 comes only if the door's count rose, and 6 only if the keeper's did at the first question.
     ensures serves { (serving : Serving) → Asks words.now (Serve serving) → (status : Status) × (result ≡ code_of status)
@@ -346,12 +453,27 @@ pub fn run<S: Source, K: Sink, D: Door, R: Keeper, L: Lots>(
         (outside (R.holds keeper.old) (R.answers keeper.old) (R.faults keeper.old) (L.drawn lots.old) (L.faults lots.old)))
         (environment (K.holds out.new) (K.faults out.new) (D.moment door.new) (D.faults door.new)
         (outside (R.holds keeper.new) (R.answers keeper.new) (R.faults keeper.new) (L.drawn lots.new) (L.faults lots.new))) }
-    ensures serve_fault { (result ≡ 5) ⊎ (result ≡ 6) → (serving : Serving) × Asks words.now (Serve serving) }
+    ensures serve_fault { result ≡ 6 → (serving : Serving) × Asks words.now (Serve serving) }
     ensures door_unfailed { result ≢ 5 → D.faults door.new ≡ D.faults door.old }
     ensures unwritten { result ≡ 6 → out.new ≡ out.old }
-    ensures unheard { (result ≡ 4) ⊎ (result ≡ 6) → (door.new ≡ door.old) × (lots.new ≡ lots.old) }
+    ensures unheard { (result ≡ 4) ⊎ (result ≡ 6) → door.new ≡ door.old }
     ensures unserved { IsNoCommand words.now ⊎ ((command : Command) × (Asks words.now command × ServesNothing command))
-        → (door.new ≡ door.old) × (keeper.new ≡ keeper.old) × (lots.new ≡ lots.old) }
+        → (door.new ≡ door.old) × (keeper.new ≡ keeper.old) }
+
+    // What `client` did, by its status: so 5 comes only if the dialer's count rose, 9 only if that of the lots did, and 8 and 10 if it was so.
+    ensures dials { (asked : Dialing) → Asks words.now (Client asked) → (status : Status) × (result ≡ code_of status)
+        × EndsDialing asked status (λ calls. C.Goes dialer.old calls dialer.new) ((dialer.new ≡ dialer.old) × (lots.new ≡ lots.old)) (S.left input.old)
+        (dial_environment (L.drawn lots.old) (K.holds out.old) (faults (C.faults dialer.old) (L.faults lots.old) (K.faults out.old)))
+        (dial_environment (L.drawn lots.new) (K.holds out.new) (faults (C.faults dialer.new) (L.faults lots.new) (K.faults out.new))) }
+    ensures dial_statuses { (result ≡ 8) ⊎ (result ≡ 9) ⊎ (result ≡ 10) → (asked : Dialing) × Asks words.now (Client asked) }
+    ensures dialer_unfailed { result ≢ 5 → C.faults dialer.new ≡ C.faults dialer.old }
+    ensures lots_unfailed { (asked : Dialing) → Asks words.now (Client asked) → result ≢ 9 → L.faults lots.new ≡ L.faults lots.old }
+    ensures undialed { IsNoCommand words.now ⊎ ((command : Command) × (Asks words.now command × DialsNothing command)) → dialer.new ≡ dialer.old }
+
+    // What both may do.
+    ensures outside_fault { result ≡ 5
+        → ((serving : Serving) × Asks words.now (Serve serving)) ⊎ ((asked : Dialing) × Asks words.now (Client asked)) }
+    ensures undrawn { IsNoCommand words.now ⊎ ((command : Command) × (Asks words.now command × DrawsNothing command result)) → lots.new ≡ lots.old }
 
     // A count of faults rises only in a call that the status tells of.
     ensures source_unfailed { result ≢ 3 → S.faults input.new ≡ S.faults input.old }
@@ -366,7 +488,7 @@ pub fn run<S: Source, K: Sink, D: Door, R: Keeper, L: Lots>(
         → (meaning_of command).reads (S.left input.old) (S.left input.new) }
 {
     match sr_words::parse(alloc, words) {
-        Ok(command) => carry_out(alloc, command, input, out, door, keeper, lots).code(),
+        Ok(command) => { carry_out(alloc, command, input, out, door, dialer, keeper, lots).code() }
         Err(WordsError::NoCommand) => write(out, USAGE, Status::Usage).code(),
         Err(WordsError::NoMemory) => {
             // So whatever the words ask for, no further is read than it may be.

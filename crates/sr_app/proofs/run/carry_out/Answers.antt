@@ -1,4 +1,8 @@
-use Rattle.std.proofs.Common.{refl}
+use Rattle.std.proofs.Common.{refl, subst, inl, inr, ⊎_elim}
+use Rattle.sr_app.specs.declared.run.Status.TheVariants.{WriteFault, KeeperFault}
+use Rattle.sr_app.specs.Run.{DialsNothing, DrawsNothing, ServesNothing, code_of}
+use Rattle.sr_app.proofs.Answering.{same_status}
+use Rattle.sr_app.proofs.Dialed.{asks_no_keeper, dialing_as, dialing_dialer_kept, dialing_lots_kept, dialing_output_kept}
 use Rattle.sr_app.proofs.Served.{serving_as, serving_ends, serving_sink_kept, serving_door_kept, serving_touches}
 use Rattle.sr_app.proofs.run.carry_out.Goals as goal
 
@@ -32,3 +36,38 @@ returns-in-Serve-clause-touched g c = λ differ.
 
 pub returns-in-Serve-clause-door_unfailed : goal.returns-in-Serve-clause-door_unfailed
 returns-in-Serve-clause-door_unfailed g c = λ differ. serving_door_kept c.in-Serve.serving _ _ _ _ c.run_serve.ensures.serves differ
+
+pub returns-in-Serve-clause-unheard : goal.returns-in-Serve-clause-unheard
+returns-in-Serve-clause-unheard g c = λ either.
+    ⊎_elim (λ nothing. absurd (subst ServesNothing c.in-Serve.is nothing)) (λ fault. (c.run_serve.ensures.unheard fault).0) either
+
+pub returns-in-Serve-clause-undrawn : goal.returns-in-Serve-clause-undrawn
+returns-in-Serve-clause-undrawn g c = λ nothing.
+    let status = subst (λ command. DrawsNothing command (code_of c.run_serve.result)) c.in-Serve.is nothing in
+    (c.run_serve.ensures.unheard (⊎_elim (λ wrote. inr (same_status c.run_serve.result WriteFault wrote)) (λ asked. inl (same_status c.run_serve.result KeeperFault asked)) status)).1
+
+pub returns-in-Client-clause-ends : goal.returns-in-Client-clause-ends
+returns-in-Client-clause-ends g c = rw c.in-Client.is c.run_dialing.ensures.ends
+
+pub returns-in-Client-clause-faults : goal.returns-in-Client-clause-faults
+returns-in-Client-clause-faults g c =
+    record { source = c.run_dialing.ensures.source_unfailed; sink = λ differ. dialing_output_kept c.in-Client.asked _ _ _ _ _ _ c.run_dialing.ensures.dials differ }
+
+pub returns-in-Client-clause-dials : goal.returns-in-Client-clause-dials
+returns-in-Client-clause-dials g c = λ asked is.
+    dialing_as _ c.in-Client.asked asked _ (λ calls. g.C.Dialer.Goes c.args.dialer.now calls c.run_dialing.new.dialer) _ _ _ _ c.in-Client.is c.run_dialing.ensures.dials is
+
+pub returns-in-Client-clause-unwritten : goal.returns-in-Client-clause-unwritten
+returns-in-Client-clause-unwritten g c = λ is. absurd (asks_no_keeper c.in-Client.asked _ _ _ _ _ _ c.run_dialing.ensures.dials is)
+
+pub returns-in-Client-clause-undialed : goal.returns-in-Client-clause-undialed
+returns-in-Client-clause-undialed g c = λ nothing. absurd (subst DialsNothing c.in-Client.is nothing)
+
+pub returns-in-Client-clause-undrawn : goal.returns-in-Client-clause-undrawn
+returns-in-Client-clause-undrawn g c = λ nothing. absurd (subst (λ command. DrawsNothing command (code_of c.run_dialing.result)) c.in-Client.is nothing)
+
+pub returns-in-Client-clause-dialer_unfailed : goal.returns-in-Client-clause-dialer_unfailed
+returns-in-Client-clause-dialer_unfailed g c = λ differ. dialing_dialer_kept c.in-Client.asked _ _ _ _ _ _ c.run_dialing.ensures.dials differ
+
+pub returns-in-Client-clause-lots_unfailed : goal.returns-in-Client-clause-lots_unfailed
+returns-in-Client-clause-lots_unfailed g c = λ asked is differ. dialing_lots_kept c.in-Client.asked _ _ _ _ _ _ c.run_dialing.ensures.dials differ

@@ -1,0 +1,76 @@
+-- Which command was ended by what is outside.
+use Rattle.std.proofs.Common.{◌≡◌, ◌∙◌, ◌⊎◌, ℕ, inl, inr, List, Option, refl, sym, subst}
+use Rattle.hd_facts.specs.Writes.{Writes}
+use Rattle.sr_words.specs.declared.commands.Command.{Command}
+use Rattle.sr_words.specs.declared.commands.Command.TheVariants.{Replay, Soak, Check, Convert, Serve, Client}
+use Rattle.sr_words.specs.declared.dialing.Dialing.{Dialing}
+use Rattle.sr_words.specs.declared.serving.Serving.{Serving}
+use Rattle.sr_app.specs.declared.run.Status.{Status}
+use Rattle.sr_app.specs.declared.run.Status.TheVariants.{Done, Usage, Refused, ReadFault, WriteFault, DoorFault, KeeperFault, NoMemory, ConnectionRefused, LotsFault, TurnsDone}
+use Rattle.sr_app.specs.Run.{Ends, InputOutput, IsEndedOutside, Meaning, code_of, meaning_of}
+use Rattle.sr_app.proofs.Answering.{same_status}
+use Rattle.sr_app.proofs.Dialed.{not_of_a_run}
+
+-- a command that was ended so wrote what goes with that
+pub ended_with : (m : Meaning) (own status : Status) (before now : InputOutput) → Ends m own before now → own ≡ status → IsEndedOutside status
+    → m.leaves now.left × Writes (m.ended status) before.left before.holds now.holds
+ended_with m own status before now ends same outside =
+    subst (λ s. IsEndedOutside s → m.leaves now.left × Writes (m.ended s) before.left before.holds now.holds) same ends.ended outside
+
+-- no command was ended so whose words are none, nor one whose words weren't read
+pub not_by_words : (own status : Status) → (own ≡ Usage) ⊎ (own ≡ WriteFault) → IsEndedOutside status → code_of own ≡ code_of status → ⊥
+not_by_words own status (inl usage) outside same = subst IsEndedOutside (sym (same_status own status same) ∙ usage) outside
+not_by_words own status (inr cut) outside same = subst IsEndedOutside (sym (same_status own status same) ∙ cut) outside
+
+pub not_in_memory : (status : Status) → IsEndedOutside status → code_of NoMemory ≡ code_of status → ⊥
+not_in_memory status outside same = subst IsEndedOutside (sym (same_status NoMemory status same)) outside
+
+pub server_of : (command : Command) (input before now : Option (List ℕ)) → Writes ((meaning_of command).ended KeeperFault) input before now → (asked : Serving) × (command ≡ Serve asked)
+server_of Replay input before now w = absurd w.3
+server_of (Soak seed steps) input before now w = absurd w.3
+server_of (Check codec) input before now w = absurd w.3
+server_of (Convert from to) input before now w = absurd w.3
+server_of (Serve asked) input before now w = (asked, refl)
+server_of (Client asked) input before now w = absurd (not_of_a_run KeeperFault tt w.3.ran w.3.status_is)
+
+pub door_or_dialer_of : (command : Command) (input before now : Option (List ℕ)) → Writes ((meaning_of command).ended DoorFault) input before now
+    → ((asked : Serving) × (command ≡ Serve asked)) ⊎ ((asked : Dialing) × (command ≡ Client asked))
+door_or_dialer_of Replay input before now w = absurd w.3
+door_or_dialer_of (Soak seed steps) input before now w = absurd w.3
+door_or_dialer_of (Check codec) input before now w = absurd w.3
+door_or_dialer_of (Convert from to) input before now w = absurd w.3
+door_or_dialer_of (Serve asked) input before now w = inl (asked, refl)
+door_or_dialer_of (Client asked) input before now w = inr (asked, refl)
+
+-- only a client has the last three statuses
+abbrev IsOfDialing : Status → Type 0
+IsOfDialing ConnectionRefused = Unit {0}
+IsOfDialing LotsFault = Unit {0}
+IsOfDialing TurnsDone = Unit {0}
+IsOfDialing status = ⊥
+
+dialer_of : (status : Status) → IsOfDialing status → (command : Command) (input before now : Option (List ℕ)) → Writes ((meaning_of command).ended status) input before now
+    → (asked : Dialing) × (command ≡ Client asked)
+dialer_of status is Replay input before now w = absurd w.3
+dialer_of status is (Soak seed steps) input before now w = absurd w.3
+dialer_of status is (Check codec) input before now w = absurd w.3
+dialer_of status is (Convert from to) input before now w = absurd w.3
+dialer_of status is (Client asked) input before now w = (asked, refl)
+dialer_of ConnectionRefused is (Serve asked) input before now w = absurd w.3
+dialer_of LotsFault is (Serve asked) input before now w = absurd w.3
+dialer_of TurnsDone is (Serve asked) input before now w = absurd w.3
+dialer_of Done is (Serve asked) input before now w = absurd is
+dialer_of Usage is (Serve asked) input before now w = absurd is
+dialer_of Refused is (Serve asked) input before now w = absurd is
+dialer_of ReadFault is (Serve asked) input before now w = absurd is
+dialer_of WriteFault is (Serve asked) input before now w = absurd is
+dialer_of DoorFault is (Serve asked) input before now w = absurd is
+dialer_of KeeperFault is (Serve asked) input before now w = absurd is
+dialer_of NoMemory is (Serve asked) input before now w = absurd is
+
+pub client_of : (command : Command) (own : Status) (before now : InputOutput) → Ends (meaning_of command) own before now → (code_of own ≡ 8) ⊎ (code_of own ≡ 9) ⊎ (code_of own ≡ 10)
+    → (asked : Dialing) × (command ≡ Client asked)
+client_of command own before now ends (inl is) =
+    dialer_of ConnectionRefused tt command _ _ _ (ended_with _ own ConnectionRefused before now ends (same_status own ConnectionRefused is) tt).1
+client_of command own before now ends (inr (inl is)) = dialer_of LotsFault tt command _ _ _ (ended_with _ own LotsFault before now ends (same_status own LotsFault is) tt).1
+client_of command own before now ends (inr (inr is)) = dialer_of TurnsDone tt command _ _ _ (ended_with _ own TurnsDone before now ends (same_status own TurnsDone is) tt).1
