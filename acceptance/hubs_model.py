@@ -389,7 +389,7 @@ class Keeper:
 
 class Bench:
     def __init__(self):
-        self.groups, self.keeper = Groups([]), Keeper("-", "-")
+        self.groups, self.keeper, self.database = Groups([]), Keeper("-", "-"), None
 
     def line(self, line):
         try:
@@ -413,7 +413,12 @@ class Bench:
             users, _, failing = rest.partition(" ")
             self.keeper = Keeper(users, failing)
             return "a keeper"
-        if form in ("groups", "keeper"):
+        if form == "database" and words == "new":
+            self.database = Keeper("-", "-")
+            return "a database"
+        if form == "database" and (self.database is None or word == "copy"):
+            raise Refused
+        if form in ("groups", "keeper", "database"):
             return getattr(self, form).ask(word, rest)
         if form in HUBS:
             return play(form, words)

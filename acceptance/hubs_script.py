@@ -177,6 +177,29 @@ keeper history x 10
 keeper each t1 ann s d
 keeper user t1
 keeper rows
+note so it is of one in a database
+database new
+database rows
+database log r 1 a
+database log s 1 b
+database log r 1 c
+database rows
+database history r 1
+database history r 10
+database history r 0
+database history x 10
+database history r 4294967295
+database user t1
+database add t1 ann
+database add t1 bob
+database user t1
+database user t
+database each t1 ann s d
+database rows
+note a new one has nothing of the last
+database new
+database rows
+database user t1
 """
 
 NO_ACTIONS = """note words that are no actions
@@ -191,6 +214,8 @@ groups join 'r one
 groups add 'r 1
 keeper history r most
 keeper lag r ann a
+database copy
+database lag r ann a
 """
 
 
@@ -286,20 +311,18 @@ groups sizes 1000
 """.splitlines()
 
 
-def random_keeper():
-    yield "keeper new token1:name10,token1:name11,token2:name12 -"
+def random_keeper(keeper):
     for call, chance in enumerate(chances(CALLS_OF_KEEPER)):
         chance >>= 33
         first, second = chance % 3, chance // 3 % 5
         lines = [
-            f"keeper log room{first} name{call} text{call}",
-            f"keeper history room{first} {second}",
-            f"keeper user token{second}",
-            f"keeper add token{second} name{call}",
-            "keeper rows",
+            f"{keeper} log room{first} name{call} text{call}",
+            f"{keeper} history room{first} {second}",
+            f"{keeper} user token{second}",
+            f"{keeper} add token{second} name{call}",
+            f"{keeper} rows",
         ]
         yield lines[chance // 15 % 5]
-    yield "keeper copy"
 
 
 def script():
@@ -314,6 +337,8 @@ def script():
         ["note groups and users: calls by chance", *random_groups()],
         ["note ten thousand connections join and go", *many_groups()],
         ["note a connection is in 256 groups at most", *A_257TH_GROUP],
-        ["note a keeper: calls by chance; of two users with one token the first counts", *random_keeper()],
+        ["note a keeper: calls by chance; of two users with one token the first counts",
+         "keeper new token1:name10,token1:name11,token2:name12 -", *random_keeper("keeper"), "keeper copy"],
+        ["note a keeper in a database, once there is one: calls by chance", "database rows", "database new", *random_keeper("database")],
     ]
     return "".join(line + "\n" for part in parts for line in part) + A_KEEPER + NO_ACTIONS

@@ -1,10 +1,12 @@
-//! A keeper in memory.
+//! Keepers: one in memory, and one in a database in memory.
 
 use crate::report::push_text;
 use crate::words::text;
 use hk_keeper::{KeepError, Keeper, MemoryKeeper, ask_all};
+use hk_sqlite::{SqlKeeper, SqlOpenError};
 use ht_kit::{Stop, count_of_32_bits, first_word, numbers};
 use hv_value::{Text, Texts};
+use sqlite::{Connection, MemStore};
 use std::alloc::Global;
 
 /// A keeper with the users and failing calls that the words say.
@@ -25,8 +27,14 @@ fn users_of(alloc: Global, words: &str) -> Result<Vec<(Text, Text)>, Stop> {
     Ok(users)
 }
 
+/// A keeper in a database without users and rows.
+pub fn start_in_database(alloc: Global) -> Result<SqlKeeper<MemStore>, Stop> {
+    let connection = Connection::open_in_memory(alloc)?;
+    SqlKeeper::open(connection).map_err(stop_of_opening)
+}
+
 /// What the keeper answers to the words.
-pub fn ask(alloc: Global, keeper: &mut MemoryKeeper, words: &str) -> Result<String, Stop> {
+pub fn ask<K: Keeper>(alloc: Global, keeper: &mut K, words: &str) -> Result<String, Stop> {
     let (word, rest) = first_word(words);
     match word {
         "log" => log(alloc, keeper, rest),
@@ -34,13 +42,12 @@ pub fn ask(alloc: Global, keeper: &mut MemoryKeeper, words: &str) -> Result<Stri
         "user" => user(alloc, keeper, rest),
         "add" => add(alloc, keeper, rest),
         "rows" => rows(alloc, keeper),
-        "copy" => copy(alloc, keeper),
         "each" => each(alloc, keeper, rest),
         _ => Err(Stop::Refused),
     }
 }
 
-fn log(alloc: Global, keeper: &mut MemoryKeeper, words: &str) -> Result<String, Stop> {
+fn log<K: Keeper>(alloc: Global, keeper: &mut K, words: &str) -> Result<String, Stop> {
     let (room, rest) = first_word(words);
     let (who, said) = first_word(rest);
     let (room, who, said) = (text(alloc, room)?, text(alloc, who)?, text(alloc, said)?);
@@ -48,7 +55,7 @@ fn log(alloc: Global, keeper: &mut MemoryKeeper, words: &str) -> Result<String, 
     Ok(String::from_str(alloc, "kept")?)
 }
 
-fn history(alloc: Global, keeper: &mut MemoryKeeper, words: &str) -> Result<String, Stop> {
+fn history<K: Keeper>(alloc: Global, keeper: &mut K, words: &str) -> Result<String, Stop> {
     let (room, most) = first_word(words);
     let (room, most) = (text(alloc, room)?, count_of_32_bits(most)?);
     let texts = keeper.history(alloc, &room, most).map_err(stop_of)?;
@@ -63,7 +70,7 @@ fn told(alloc: Global, texts: &Texts) -> Result<String, Stop> {
     Ok(told)
 }
 
-fn user(alloc: Global, keeper: &mut MemoryKeeper, token: &str) -> Result<String, Stop> {
+fn user<K: Keeper>(alloc: Global, keeper: &mut K, token: &str) -> Result<String, Stop> {
     let token = text(alloc, token)?;
     let Some(name) = keeper.user_of(alloc, &token).map_err(stop_of)? else {
         return Ok(String::from_str(alloc, "nobody")?);
@@ -73,7 +80,7 @@ fn user(alloc: Global, keeper: &mut MemoryKeeper, token: &str) -> Result<String,
     Ok(told)
 }
 
-fn add(alloc: Global, keeper: &mut MemoryKeeper, words: &str) -> Result<String, Stop> {
+fn add<K: Keeper>(alloc: Global, keeper: &mut K, words: &str) -> Result<String, Stop> {
     let (token, name) = first_word(words);
     let (token, name) = (text(alloc, token)?, text(alloc, name)?);
     let is_new = keeper.add_user(alloc, &token, &name).map_err(stop_of)?;
@@ -81,13 +88,13 @@ fn add(alloc: Global, keeper: &mut MemoryKeeper, words: &str) -> Result<String, 
     Ok(String::from_str(alloc, answer)?)
 }
 
-fn rows(alloc: Global, keeper: &mut MemoryKeeper) -> Result<String, Stop> {
+fn rows<K: Keeper>(alloc: Global, keeper: &mut K) -> Result<String, Stop> {
     let rows = keeper.rows().map_err(stop_of)?;
     Ok(format!(in alloc; "{rows} rows")?)
 }
 
 /// Whether a copy was asked the same.
-fn copy(alloc: Global, keeper: &MemoryKeeper) -> Result<String, Stop> {
+pub fn copy(alloc: Global, keeper: &MemoryKeeper) -> Result<String, Stop> {
     let copy = keeper.copy()?;
     let asked = keeper.was_asked().len();
     let same = if copy.was_asked() == keeper.was_asked() {
@@ -98,7 +105,7 @@ fn copy(alloc: Global, keeper: &MemoryKeeper) -> Result<String, Stop> {
     Ok(format!(in alloc; "{asked} calls, and {same} of a copy")?)
 }
 
-fn each(alloc: Global, keeper: &mut MemoryKeeper, words: &str) -> Result<String, Stop> {
+fn each<K: Keeper>(alloc: Global, keeper: &mut K, words: &str) -> Result<String, Stop> {
     let (token, rest) = first_word(words);
     let (name, rest) = first_word(rest);
     let (room, said) = first_word(rest);
@@ -106,6 +113,13 @@ fn each(alloc: Global, keeper: &mut MemoryKeeper, words: &str) -> Result<String,
     let row = (text(alloc, room)?, text(alloc, said)?);
     let texts = ask_all(keeper, alloc, &user, &row).map_err(stop_of)?;
     told(alloc, &texts)
+}
+
+fn stop_of_opening(error: SqlOpenError) -> Stop {
+    match error {
+        SqlOpenError::Store => Stop::Failed,
+        SqlOpenError::NoMemory => Stop::NoMemory,
+    }
 }
 
 fn stop_of(error: KeepError) -> Stop {

@@ -1,4 +1,4 @@
-//! Asks hubs, a registry of groups and a keeper as the lines of its input say, and prints what they answer: a program to test the layer of
+//! Asks hubs, a registry of groups and keepers as the lines of its input say, and prints what they answer: a program to test the layer of
 //! hubs by. Its input and the output that is wanted are those of `acceptance/hubs_model.py`, a model over plain lists. It promises nothing
 //! of its own, so no edit of it must fail.
 //!
@@ -24,6 +24,8 @@
 //!                              numbers (with a comma between two); `-` is none. Its further actions are `log ROOM WHO TEXT`,
 //!                              `history ROOM MOST`, `user TOKEN`, `add TOKEN NAME`, `rows`, `copy`, and `each TOKEN NAME ROOM TEXT`,
 //!                              which makes each call once, and prints what the last answers
+//! database new                 a keeper in a database in memory without users and rows. Its further actions are those of `keeper` but
+//!                              `copy`
 //! ```
 #![tactic(auto)]
 

@@ -1,0 +1,12 @@
+pub mod Lists
+pub mod Meaning
+pub mod Order
+pub mod Refused
+pub mod Parts
+pub mod Logging
+pub mod Reading
+pub mod Recalling
+pub mod Naming
+pub mod Counting
+pub mod Adding
+pub mod Making
