@@ -5,10 +5,12 @@ ghost use Rattle.hw_door.specs.Ledger.{trace_of};
 
 use hw_door::{MemoryWires, WireRead, Wires};
 use hw_io::Failed;
+use std::alloc::Global;
 
 /// Wires in memory, and what they name after each poll: numbers that rise, none of which need be that of a wire.
 #[derive(Drop)]
 pub struct NamedWires {
+    alloc: Global,
     wires: MemoryWires,
     names: Vec<Vec<u64>>,
     // How many polls there were.
@@ -17,17 +19,21 @@ pub struct NamedWires {
     waited: u64,
     // How often a wire was shut.
     shuts: u64,
+    // The host and the port of the last call of `connect`, if there was one and memory for them.
+    dialed: Option<String>,
 }
 
 impl NamedWires {
     /// These wires, which name these after each poll.
-    pub fn start(wires: MemoryWires, names: Vec<Vec<u64>>) -> NamedWires {
+    pub fn start(alloc: Global, wires: MemoryWires, names: Vec<Vec<u64>>) -> NamedWires {
         NamedWires {
+            alloc,
             wires,
             names,
             polls: 0,
             waited: 0,
             shuts: 0,
+            dialed: None,
         }
     }
 
@@ -44,6 +50,14 @@ impl NamedWires {
     /// How often a wire was shut.
     pub fn shuts(&self) -> u64 {
         self.shuts
+    }
+
+    /// The host and the port that were dialed last, with a space between, or `-` before the first.
+    pub fn dialed(&self) -> &str {
+        match &self.dialed {
+            Some(dialed) => dialed.as_str(),
+            None => "-",
+        }
     }
 }
 
@@ -67,6 +81,7 @@ impl Wires for NamedWires {
     }
 
     fn connect(&mut self, host: &str, port: u16) -> Result<u64, Failed> {
+        self.dialed = format!(in self.alloc; "{host} {port}").ok();
         self.wires.connect(host, port)
     }
 

@@ -1,32 +1,34 @@
-//! The lines of a script, and the door that they speak to.
+//! The lines of a script, and the door or the dialer that they speak to.
 
 ghost use Rattle.std.specs.Prelude.{◌≡◌, ◌==◌, IfOk, IsTrue};
 ghost use Rattle.std.specs.List.{list_any};
 ghost use Rattle.hw_lanes.specs.Replies.{IsReply, statuses};
 
 use crate::named::NamedWires;
+use crate::side::Side;
 use crate::telling::told;
-use crate::words::{accept, body, bytes, kind, shown};
-use ht_forms::{Spelling, is_rising, wire_of};
+use crate::words::{accept, address, body, bytes, kind, shown, upgrade};
+use ht_forms::{Spelling, is_rising, method, wire_of};
 use ht_kit::{Play, Stop, count, first_word, number, numbers};
-use hw_door::{Door, DoorError, MemoryWire, MemoryWires};
+use hw_door::{Address, Dialer, Door, DoorError, MemoryWire, MemoryWires, Upgrade};
 use hw_lanes::Reply;
-use hw_net::NetDoor;
+use hw_net::{NetDialer, NetDoor};
 use std::alloc::{AllocError, Global};
-use std::mem;
+use std::{mem, str};
 
 /// For how many bytes and calls the wires have room to tell them.
 const ROOM: usize = 4_000_000;
 
 const CALLS: usize = 100_000;
 
-/// A door, and the wires that the next one stands on, with what they name.
+/// A door or a dialer, and what the next one is made of: its wires, with what they name, and the addresses of a dialer.
 #[derive(Drop)]
 pub struct Bench {
     alloc: Global,
     wires: Vec<MemoryWire>,
     names: Vec<Vec<u64>>,
-    door: NetDoor<NamedWires>,
+    addresses: Vec<Address>,
+    side: Side,
 }
 
 fn names_of(alloc: Global, word: &str) -> Result<Vec<Vec<u64>>, Stop> {
@@ -119,7 +121,11 @@ impl Bench {
             alloc,
             wires: Vec::new(alloc),
             names: Vec::new(alloc),
-            door: NetDoor::start(alloc, NamedWires::start(wires, Vec::new(alloc))),
+            addresses: Vec::new(alloc),
+            side: Side::Door(NetDoor::start(
+                alloc,
+                NamedWires::start(alloc, wires, Vec::new(alloc)),
+            )),
         })
     }
 
@@ -138,7 +144,14 @@ impl Bench {
         self.told("to be named")
     }
 
-    fn start_door(&mut self, words: &str) -> Result<String, Stop> {
+    fn add_address(&mut self, words: &str) -> Result<String, Stop> {
+        let address = address(self.alloc, words)?;
+        self.addresses.push(address)?;
+        self.told("to be dialed")
+    }
+
+    /// The wires that were to be given, which poll these moments, and fail at the calls of these numbers.
+    fn start_wires(&mut self, words: &str) -> Result<NamedWires, Stop> {
         let (moments, failing) = first_word(words);
         let moments = numbers(self.alloc, moments)?;
         let failing = numbers(self.alloc, failing)?;
@@ -148,12 +161,24 @@ impl Bench {
         let given = mem::replace(&mut self.wires, Vec::new(self.alloc));
         let names = mem::replace(&mut self.names, Vec::new(self.alloc));
         let wires = MemoryWires::start(self.alloc, moments, given, failing, ROOM, CALLS)?;
-        self.door = NetDoor::start(self.alloc, NamedWires::start(wires, names));
+        Ok(NamedWires::start(self.alloc, wires, names))
+    }
+
+    fn start_door(&mut self, words: &str) -> Result<String, Stop> {
+        let wires = self.start_wires(words)?;
+        self.side = Side::Door(NetDoor::start(self.alloc, wires));
         self.told("a door")
     }
 
+    fn start_dialer(&mut self, words: &str) -> Result<String, Stop> {
+        let wires = self.start_wires(words)?;
+        let addresses = mem::replace(&mut self.addresses, Vec::new(self.alloc));
+        self.side = Side::Dialer(NetDialer::start(self.alloc, wires, addresses));
+        self.told("a dialer")
+    }
+
     fn next(&mut self, words: &str) -> Result<String, Stop> {
-        let heard = self.door.next(number(words)?).map_err(stop_of)?;
+        let heard = self.side.next(number(words)?).map_err(stop_of)?;
         told(self.alloc, &heard)
     }
 
@@ -161,8 +186,47 @@ impl Bench {
         let (lane, rest) = first_word(words);
         let lane = number(lane)?;
         let reply = reply_of(self.alloc, rest)?;
-        self.door.reply(lane, reply).map_err(stop_of)?;
+        let Side::Door(door) = &mut self.side else {
+            return Err(Stop::Refused);
+        };
+        door.reply(lane, reply).map_err(stop_of)?;
         self.told("replied")
+    }
+
+    fn ask(&mut self, words: &str) -> Result<String, Stop> {
+        let (place, rest) = first_word(words);
+        let (method, rest) = first_word(rest);
+        let (target, rest) = first_word(rest);
+        let upgrade = upgrade(self.alloc, rest)?;
+        self.ask_for(number(place)?, method, target, upgrade)
+    }
+
+    /// Asks for a target of so many bytes, all letters but the first.
+    fn ask_long(&mut self, words: &str) -> Result<String, Stop> {
+        let (place, rest) = first_word(words);
+        let (method, size) = first_word(rest);
+        let mut target = Vec::new(self.alloc);
+        target.push(b'/')?;
+        target.resize(count(size)?, b'a')?;
+        let target = str::from_utf8(&target).ok().ok_or(Stop::Refused)?;
+        self.ask_for(number(place)?, method, target, None)
+    }
+
+    fn ask_for(
+        &mut self,
+        place: u64,
+        word: &str,
+        target: &str,
+        upgrade: Option<Upgrade>,
+    ) -> Result<String, Stop> {
+        let Some(method) = method(word) else {
+            return Err(Stop::Refused);
+        };
+        let Side::Dialer(dialer) = &mut self.side else {
+            return Err(Stop::Refused);
+        };
+        let lane = dialer.ask(place, method, target, upgrade).map_err(stop_of)?;
+        Ok(format!(in self.alloc; "lane {lane}")?)
     }
 
     fn send(&mut self, words: &str) -> Result<String, Stop> {
@@ -183,38 +247,43 @@ impl Bench {
     }
 
     fn send_bytes(&mut self, lane: u64, bytes: &[u8], is_text: bool) -> Result<String, Stop> {
-        let is_full = self.door.send(lane, bytes, is_text).map_err(stop_of)?;
+        let is_full = self.side.send(lane, bytes, is_text).map_err(stop_of)?;
         self.told(if is_full { "sent, full" } else { "sent" })
     }
 
     fn shut(&mut self, words: &str) -> Result<String, Stop> {
-        self.door.shut(number(words)?).map_err(stop_of)?;
+        self.side.shut(number(words)?).map_err(stop_of)?;
         self.told("shut")
     }
 
     fn flush(&mut self) -> Result<String, Stop> {
-        self.door.flush();
+        self.side.flush();
         self.told("flushed")
     }
 
     fn written(&mut self, words: &str) -> Result<String, Stop> {
-        let bytes = shown(self.alloc, self.door.wires().written(number(words)?))?;
+        let bytes = shown(self.alloc, self.side.wires().written(number(words)?))?;
         Ok(format!(in self.alloc; "written {bytes}")?)
     }
 
     fn taken(&mut self, words: &str) -> Result<String, Stop> {
-        let count = self.door.wires().written(number(words)?).len();
+        let count = self.side.wires().written(number(words)?).len();
         Ok(format!(in self.alloc; "taken {count}")?)
     }
 
     fn waited(&self) -> Result<String, Stop> {
-        let wait = self.door.wires().waited();
+        let wait = self.side.wires().waited();
         Ok(format!(in self.alloc; "waited {wait}")?)
     }
 
     fn shuts(&self) -> Result<String, Stop> {
-        let count = self.door.wires().shuts();
+        let count = self.side.wires().shuts();
         Ok(format!(in self.alloc; "shuts {count}")?)
+    }
+
+    fn dialed(&self) -> Result<String, Stop> {
+        let dialed = self.side.wires().dialed();
+        Ok(format!(in self.alloc; "dialed {dialed}")?)
     }
 }
 
@@ -224,9 +293,13 @@ impl Play for Bench {
         match word {
             "wire" => self.add_wire(rest),
             "names" => self.give_names(rest),
+            "address" => self.add_address(rest),
             "door" => self.start_door(rest),
+            "dialer" => self.start_dialer(rest),
             "next" => self.next(rest),
             "reply" => self.reply(rest),
+            "ask" => self.ask(rest),
+            "ask-long" => self.ask_long(rest),
             "send" => self.send(rest),
             "fill" => self.fill(rest),
             "shut" => self.shut(rest),
@@ -235,6 +308,7 @@ impl Play for Bench {
             "taken" => self.taken(rest),
             "waited" => self.waited(),
             "shuts" => self.shuts(),
+            "dialed" => self.dialed(),
             _ => Err(Stop::Refused),
         }
     }

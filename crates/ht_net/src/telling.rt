@@ -54,7 +54,10 @@ fn event(alloc: Global, event: &Event) -> Result<String, Stop> {
             let bytes = shown(alloc, bytes.bytes())?;
             Ok(format!(in alloc; "bytes {lane} {bytes}")?)
         }
-        Event::Response { lane, .. } => Ok(format!(in alloc; "response {lane}")?),
+        Event::Response { lane, status, body } => {
+            let body = shown(alloc, body.bytes())?;
+            Ok(format!(in alloc; "response {lane} {status} {body}")?)
+        }
         Event::Upgraded { lane } => Ok(format!(in alloc; "upgraded {lane}")?),
         Event::Lost { lane } => Ok(format!(in alloc; "lost {lane}")?),
         Event::Drained { lane } => Ok(format!(in alloc; "drained {lane}")?),
