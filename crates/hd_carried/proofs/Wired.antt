@@ -27,7 +27,7 @@ use Rattle.hw_net.specs.Chains.{Told, CallsAreASession, CallsSplit, gives, hears
 use Rattle.hw_net.specs.Door.{DoorState, state_of}
 use Rattle.hw_net.specs.Lane.{Lane, is_live, waits}
 use Rattle.hw_net.specs.Sessions as session
-use Rattle.hw_net.specs.Sessions.{Call, CarriesSocket, HeardRequests, IsCarried, RepliesAreWritten, RequestsAreAsked, Session, SocketsAreCarried, WroteReplies, answers_of, message_on, messages_on, refusal_on, replies_on, request_on, requests_on, sent_on}
+use Rattle.hw_net.specs.Sessions.{Call, CarriesSocket, HeardRequests, IsCarried, RepliesAreWritten, RequestsAreAsked, Session, SocketsAreCarried, WroteReplies, answers_of, by_reply, message_on, messages_on, refusal_on, replies_on, request_on, requests_on, sent_on}
 use Rattle.hw_net.specs.Trace.{Tells}
 use Rattle.hd_server.specs.Laws.{EachRequestIsAnswered, PartsOfTurns}
 use Rattle.hd_server.specs.Plans.{Setup}
@@ -148,7 +148,7 @@ sent_in lane sent (door.failed ask why ∷ calls) = sent_in lane sent calls
 
 module _ (frames : WritesFrames) where
   framed : (live : Bool) (came wrote : List ℕ) (requests : List Request) (payloads : List (List ℕ)) (given : List Sent) (replies : List Reply) (now : socket.Lane)
-      → IsCarried live came wrote requests payloads given replies now → IsFramed live came wrote requests payloads given replies now
+      → IsCarried live came wrote (by_reply requests replies) payloads given now → IsFramed live came wrote requests payloads given replies now
   framed live came wrote requests payloads given replies now c =
       let f = frames side.Server c.calls c.keeps c.runs in
       let all : c.keeps.out.bytes ≡ stream side.Server 0 f.0 = ap (λ l. l ++ c.keeps.out.bytes) (sym c.undropped) ∙ f.1 in

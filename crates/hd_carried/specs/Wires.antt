@@ -21,7 +21,7 @@ use Rattle.hw_net.specs.declared.protocol.Protocol.TheVariants.{Http, Response, 
 use Rattle.hw_net.specs.Chains.{is_steady, told_in, told_in_all}
 use Rattle.hw_net.specs.Door.{state_of}
 use Rattle.hw_net.specs.Lane.{Lane, is_live, waits}
-use Rattle.hw_net.specs.Sessions.{AreTextsOf, Call, IsCarried, Session, answers_of, continue_of, message_on, refusal_on, request_on, sent_on}
+use Rattle.hw_net.specs.Sessions.{AreTextsOf, Call, IsCarried, Session, answers_of, by_reply, continue_of, message_on, refusal_on, request_on, sent_on}
 use Rattle.hw_net.specs.Trace.{Tells}
 use Rattle.hd_server.specs.Plans.{Setup}
 use Rattle.hd_server.specs.Serving.{ServeEnd, ServesOn, is_cut}
@@ -63,7 +63,7 @@ sent_after lane sent (word ∷ given) = sent_after lane (after_given lane word s
 -- texts of the replies and then frames, of which the messages are those that were given, in order, but for those from a text on that was none; a close frame
 -- is the last, and there is one only where it is gone.
 pub record IsFramed (live : Bool) (came wrote : List ℕ) (requests : List Request) (payloads : List (List ℕ)) (given : List Sent) (replies : List Reply) (now : socket.Lane) : Type 0 where
-  pub carried : IsCarried live came wrote requests payloads given replies now
+  pub carried : IsCarried live came wrote (by_reply requests replies) payloads given now
   pub frames : List Frame
   pub legal : AreLegal frames
   pub took : messages frames ≡ socket_calls.said carried.calls

@@ -121,7 +121,7 @@ writes-silent before after answers w = (λ wire. go wire (must_end before.stage 
 protocol-silent : (before after : Lane) (answers : List Answer) → ((wire : ℕ) → read_on wire answers ≡ []) → after.protocol ≡ before.protocol → Silent before after answers
 protocol-silent before after answers none e = (none, reads-same before.protocol after.protocol e)
 
-still-silent : (before after : Lane) (answers : List Answer) → answers ≡ [] → after ≡ before → Silent before after answers
+pub still-silent : (before after : Lane) (answers : List Answer) → answers ≡ [] → after ≡ before → Silent before after answers
 still-silent before after answers e f = protocol-silent before after answers (λ wire. none-of wire [] answers e refl) (ap (λ (l : Lane). l.protocol) f)
 
 dropped-or-silent : (is_dropped : Bool) (before after : Lane) (answers : List Answer) → DropsOrWrites is_dropped before after answers → Silent before after answers

@@ -1,5 +1,5 @@
 -- In a session a live lane awaits a reply, and became a WebSocket, exactly if its caller knows so.
-use Rattle.std.proofs.Common.{if◌then◌else◌, ◌≡◌, ◌⊎◌, ◌==◌, ◌&&◌, ◌||◌, ◌++◌, ◌∷◌, [], ℕ, Bool, true, false, not, List, Option, None, Some, refl, sym, ap, ◌∙◌, subst, inl, inr, length}
+use Rattle.std.proofs.Common.{if◌then◌else◌, ◌≡◌, ◌==◌, ◌&&◌, ◌||◌, ◌++◌, ◌∷◌, [], ℕ, Bool, true, false, not, List, Option, None, Some, refl, sym, ap, ◌∙◌, subst, inl, inr}
 use Rattle.hw_lanes.specs.declared.http.Reply.{Reply}
 use Rattle.hh_http.specs.Texts.{reply_text}
 use Rattle.hw_door.specs.declared.heard.Event.{Event}
@@ -8,156 +8,26 @@ use Rattle.hw_door.specs.Traffic.{Answer}
 use Rattle.hw_net.specs.declared.limits.TheConstants.{SWITCHING}
 use Rattle.hw_net.specs.declared.input.Input.{Input}
 use Rattle.hw_net.specs.declared.input.Input.TheVariants as input
-use Rattle.hw_net.specs.declared.response_state.Expected.{Expected}
 use Rattle.hw_net.specs.declared.protocol.Protocol.{Protocol}
 use Rattle.hw_net.specs.declared.protocol.Protocol.TheVariants.{Http, Response, Socket}
 use Rattle.hw_net.specs.declared.protocol.Stage.{Stage}
 use Rattle.hw_net.specs.declared.protocol.Stage.TheVariants.{Live, Lost, Closing, Over}
 use Rattle.hw_net.specs.Awaited.{is_lost_on, awaits_on, upgraded_on, AreAwaited, RequestsAreFree}
 use Rattle.hw_net.specs.Door.{new_lane}
-use Rattle.hw_net.specs.Lane.{Lane, waits, is_live, is_busy, owes, is_overdue, after_reply, protocol_after_shut, protocol_after_reply, protocol_after_upgrade, accepted_socket, protocol_after_continue, new_socket, rest_of, after_hearing}
-use Rattle.hw_net.specs.Saying.{WritesOut, DropsOrWrites, SpeaksAs, Says, SaysAt, SaysMore, GathersOrSays, has_closed_long, is_too_much}
+use Rattle.hw_net.specs.Lane.{Lane, is_live, is_busy, owes, is_overdue, after_reply, protocol_after_reply, new_socket, rest_of, after_hearing}
+use Rattle.hw_net.specs.Saying.{SaysMore}
 use Rattle.hw_net.specs.Sessions as session
 use Rattle.hw_net.specs.Sessions.{Call, Session, is_end_on, is_request_on, request_on, requests_on}
 use Rattle.hw_net.specs.Trace.{Chooses}
-use Rattle.hw_net.specs.Turn.{Hears, Falls, Passes, Settles, Loses, LosesAt, TurnsLive, TurnsAt, Listens, Replies, PutsAt, Sends, Shuts}
-use Rattle.hw_net.proofs.Bystanders.{SaysOrStays, Stays, gathered-says}
+use Rattle.hw_net.specs.Turn.{Hears, Falls, Passes, Settles, Loses, LosesAt, TurnsLive, TurnsAt, Listens, Replies, Sends, Shuts}
 use Rattle.hw_net.proofs.Counting.{hears_no_request, Lives, same-lives, says-live, more-live, bystander-live, loses-live, sends-live, shuts-live, live-busy, heeds-free}
 use Rattle.hw_net.proofs.Ends.{is_request_in, heard-request, continue-busy, upgrade-busy, replied-owes}
-use Rattle.hw_net.proofs.Fullness.{by-fullness, SaysPut}
+use Rattle.hw_net.proofs.Fullness.{by-fullness}
+use Rattle.hw_net.proofs.Speaking.{Speaks, bystander-speech, heeds-speech, more-kind, same-speech, sends-speech, shuts-speech, speaks}
 use Rattle.hw_net.proofs.Owed.{by-number}
 use Rattle.hw_net.proofs.Owning.{is_on}
 use Rattle.hw_net.proofs.Shares.{equal, same}
 use Rattle.hw_net.proofs.Walks.{IsHeard, Heeds, Moves, moves-wire, IsUntouched, each-before, mover, not-request}
-
--- ---- what a lane speaks
-
--- it is one of requests if it was
-abbrev pub Speaks : Lane → Lane → Type 0
-Speaks x y = hears_no_request y.protocol ≡ hears_no_request x.protocol
-
-pub same-speech : (x y : Lane) → y ≡ x → Speaks x y
-same-speech x y e = ap (λ (l : Lane). hears_no_request l.protocol) e
-
-as-speech : (before after : Protocol) → SpeaksAs before after → hears_no_request after ≡ hears_no_request before
-as-speech (Http before) (Http after) e = refl
-as-speech (Response before) (Response after) e = refl
-as-speech (Socket before) (Socket after) e = refl
-as-speech _ _ e = absurd e
-
-writes-speech : (x y : Lane) (answers : List Answer) → WritesOut x y answers → Speaks x y
-writes-speech x y answers w = as-speech x.protocol y.protocol w.still.protocol
-
-dropped-or-speech : (is_dropped : Bool) (x y : Lane) (answers : List Answer) → DropsOrWrites is_dropped x y answers → Speaks x y
-dropped-or-speech true x y answers h = ap (λ (l : Lane). hears_no_request l.protocol) h.1
-dropped-or-speech false x y answers h = writes-speech x y answers h
-
-says-speech : (now : ℕ) (x y : Lane) (answers : List Answer) → Says now x y answers → Speaks x y
-says-speech now x y answers h = go x.stage h where
-  go : (s : Stage) → SaysAt s now x y answers → Speaks x y
-  go Live h = writes-speech x y answers h
-  go Lost h = same-speech x y h.1
-  go Closing h = dropped-or-speech (has_closed_long now x.since) x y answers h
-  go Over h = same-speech x y h.1
-
-more-speech : (x y : Lane) (answers : List Answer) → SaysMore x y answers → Speaks x y
-more-speech x y answers h = dropped-or-speech (is_too_much (length (waits x))) x y answers h
-
-pub bystander-speech : (now : ℕ) (x y : Lane) (answers : List Answer) → SaysOrStays now x y answers → Speaks x y
-bystander-speech now x y answers (inl h) = says-speech now x y answers h
-bystander-speech now x y answers (inr h) = same-speech x y h.0
-
-gathered-speech : (x y : Lane) (answers : List Answer) → GathersOrSays x y answers → Speaks x y
-gathered-speech x y answers h = go (gathered-says x y answers h) where
-  go : SaysMore x y answers ⊎ Stays x y answers → Speaks x y
-  go (inl k) = more-speech x y answers k
-  go (inr k) = same-speech x y k.0
-
-loses-speech : (trace : Option Event) (x y : Lane) (heard : Option Event) → Loses trace x y heard → Speaks x y
-loses-speech (Some here) x y heard h = same-speech x y h.1
-loses-speech None x y heard h = go x.stage h where
-  go : (s : Stage) → LosesAt s x y heard → Speaks x y
-  go Live h = same-speech x y h.1
-  go Lost h = ap (λ (l : Lane). hears_no_request l.protocol) h.1
-  go Closing h = same-speech x y h.1
-  go Over h = same-speech x y h.1
-
-continue-speech : (protocol : Protocol) → hears_no_request (protocol_after_continue protocol) ≡ hears_no_request protocol
-continue-speech (Http http_state) = refl
-continue-speech (Response response_state) = refl
-continue-speech (Socket websocket_state) = refl
-
-shut-speech : (protocol : Protocol) → hears_no_request (protocol_after_shut protocol) ≡ hears_no_request protocol
-shut-speech (Http http_state) = refl
-shut-speech (Response response_state) = refl
-shut-speech (Socket websocket_state) = refl
-
-upgrade-speech : (protocol : Protocol) → hears_no_request (protocol_after_upgrade protocol) ≡ hears_no_request protocol
-upgrade-speech (Http http_state) = refl
-upgrade-speech (Response response_state) = go response_state.upgrade where
-  go : (upgrade : Option Expected) → hears_no_request (accepted_socket upgrade response_state) ≡ true
-  go None = refl
-  go (Some expected) = refl
-upgrade-speech (Socket websocket_state) = refl
-
-hears-speech : (wire : ℕ) (before after : Protocol) (answers : List Answer) (what : Input) → Hears wire before after answers what → hears_no_request after ≡ hears_no_request before
-hears-speech wire (Http before) (Http after) answers what h = refl
-hears-speech wire (Response before) (Response after) answers what h = refl
-hears-speech wire (Socket before) (Socket after) answers what h = refl
-hears-speech wire _ _ answers what h = absurd h
-
-settles-speech : (now : ℕ) (x y : Lane) (answers : List Answer) (what : Input) (heard : Option Event) → Settles now x y answers what heard → Speaks x y
-settles-speech now x y answers input.Nothing heard h = go (is_overdue now x) h where
-  go : (b : Bool) → Chooses b (Falls x y answers heard) (Passes x y answers None heard) → Speaks x y
-  go true h = ap (λ (l : Lane). hears_no_request l.protocol) h.2
-  go false h = same-speech x y h.2
-settles-speech now x y answers (input.Request request) heard h = same-speech x y h.2
-settles-speech now x y answers (input.Refused refusal) heard h = ap (λ (l : Lane). hears_no_request l.protocol) h.2
-settles-speech now x y answers (input.Response status body) heard h = same-speech x y h.2
-settles-speech now x y answers input.Upgraded heard h = ap (λ (l : Lane). hears_no_request l.protocol) h.2 ∙ upgrade-speech x.protocol
-settles-speech now x y answers (input.Message bytes) heard h = same-speech x y h.2
-settles-speech now x y answers input.Broken heard h = ap (λ (l : Lane). hears_no_request l.protocol) h.2
-settles-speech now x y answers input.Gone heard h = ap (λ (l : Lane). hears_no_request l.protocol) h.2 ∙ shut-speech x.protocol
-
-live-speech : (now : ℕ) (x y : Lane) (mine : List Answer) (own : Option Event) → TurnsLive now x y mine own → Speaks x y
-live-speech now x y mine own h =
-    loses-speech h.trace h.said y own h.loses ∙ says-speech now h.settled h.said h.written h.says
-    ∙ settles-speech now (after_hearing h.protocol x) h.settled h.shut h.input h.trace h.settles ∙ continue-speech h.protocol
-    ∙ hears-speech x.wire x.protocol h.protocol h.read h.input h.hears
-
-listens-speech : (now : ℕ) (x y : Lane) (mine : List Answer) (own : Option Event) → Listens now x y mine own → Speaks x y
-listens-speech now x y mine own h = go x.stage h where
-  go : (s : Stage) → TurnsAt s now x y mine own → Speaks x y
-  go Live h = by-fullness (λ (l : Lane). Speaks x l) now x y mine own
-      (λ d f s. says-speech now (record x { full = None }) y mine s)
-      (λ s f. ap (λ (l : Lane). hears_no_request l.protocol) f.2)
-      (λ mid t. live-speech now x mid mine own t)
-      h
-  go Lost h = ap (λ (l : Lane). hears_no_request l.protocol) h.2
-  go Closing h = says-speech now x y mine h.1
-  go Over h = same-speech x y h.2
-
-pub heeds-speech : (now : ℕ) (what : Event) (x y : Lane) (mine : List Answer) → Heeds now what x y mine → Speaks x y
-heeds-speech now what x y mine (inl h) = listens-speech now x y mine h.0 h.1
-heeds-speech now what x y mine (inr h) = bystander-speech now x y mine h.0
-
-put-speech : (live : Bool) (protocol : Protocol) (bytes : List ℕ) (text : Bool) (x mid : Lane) (is_put : Bool) → x.protocol ≡ protocol → PutsAt live protocol bytes text x mid is_put → Speaks x mid
-put-speech true (Socket websocket_state) bytes text x mid is_put e h = ap (λ (l : Lane). hears_no_request l.protocol) h.2 ∙ sym (ap hears_no_request e)
-put-speech true (Http http_state) bytes text x mid is_put e h = same-speech x mid h.1
-put-speech true (Response response_state) bytes text x mid is_put e h = same-speech x mid h.1
-put-speech false protocol bytes text x mid is_put e h = same-speech x mid h.1
-
-pub sends-speech : (now : ℕ) (bytes : List ℕ) (text : Bool) (x y : Lane) (mine : List Answer) → Sends now bytes text x y mine → Speaks x y
-sends-speech now bytes text x y mine h = go h.0 h.1 h.3 ∙ put-speech (is_live x.stage) x.protocol bytes text x h.0 h.1 refl h.2 where
-  go : (mid : Lane) (b : Bool) → SaysPut now b mid y mine → Speaks mid y
-  go mid true h = ap (λ (l : Lane). hears_no_request l.protocol) h.2 ∙ gathered-speech mid h.0 mine h.1
-  go mid false h = same-speech mid y h.1
-
-pub shuts-speech : (now : ℕ) (x y : Lane) (mine : List Answer) → Shuts now x y mine → Speaks x y
-shuts-speech now x y mine h = go (is_live x.stage) h where
-  go : (b : Bool) → Chooses b (WritesOut (record x { since = now; protocol = protocol_after_shut x.protocol; stage = Closing }) y mine) ((mine ≡ []) × (y ≡ x)) → Speaks x y
-  go true h = writes-speech (record x { since = now; protocol = protocol_after_shut x.protocol; stage = Closing }) y mine h ∙ shut-speech x.protocol
-  go false h = same-speech x y h.1
 
 -- ---- what is heard of a lane that stays live
 
@@ -345,7 +215,7 @@ replies-stand now reply x y mine h e f live = go (subst (λ b. Chooses b (SaysMo
   go h =
       let was = more-live (after_reply now reply x) y mine h live in (
         was.1 ∙ sym (live-busy (after_reply now reply x) was.0) ∙ replied-owes now reply x,
-        more-speech (after_reply now reply x) y mine h ∙ replied-speech now reply x f,
+        speaks (after_reply now reply x) y (more-kind (after_reply now reply x) y mine h) ∙ replied-speech now reply x f,
       )
 
 -- ---- sessions

@@ -114,12 +114,20 @@ is_done Lost = false
 is_done Closing = true
 is_done Over = true
 
--- its wire was shut or not, which is the last that is done on it; nothing is if it was shut before; and it is done only if it was, or by this
+-- its wire was shut or not, which is the last that is done on it; nothing is if it was shut before; and it is done only if it was, or by this, and if it was
 pub record Closes (wire : ℕ) (before after : Stage) (mine : List Answer) (ended : Bool) : Type 0 where
   pub ends : ((was_shut_in wire mine ≡ true) × (has_wire after ≡ false)) ⊎ ((was_shut_in wire mine ≡ false) × (has_wire after ≡ has_wire before))
   pub last : ShutLast wire mine
   pub none : has_wire before ≡ false → mine ≡ []
   pub done : is_done after ≡ true → (is_done before ≡ true) ⊎ (ended ≡ true)
+  pub stays : is_done before ≡ true → is_done after ≡ true
+
+-- a lane that is done isn't live
+pub undone-live : {A : Type 0} (s : Stage) → is_live s ≡ true → is_done s ≡ true → A
+undone-live Live e d = absurd (cc d)
+undone-live Lost e d = absurd (cc d)
+undone-live Closing e d = absurd (cc e)
+undone-live Over e d = absurd (cc e)
 
 no-wire : (s : Stage) → has_wire (after_end s) ≡ false
 no-wire Live = refl
@@ -140,12 +148,14 @@ by-ends wire before after mine (inl e) last none = record {
   last = last;
   none = none;
   done = λ d. inl (sym (ap is_done e.1 ∙ end-done before) ∙ d);
+  stays = λ d. ap is_done e.1 ∙ end-done before ∙ d;
 }
 by-ends wire before after mine (inr e) last none = record {
   ends = inr (e.0, ap has_wire e.1);
   last = last;
   none = none;
   done = λ d. inl (sym (ap is_done e.1) ∙ d);
+  stays = λ d. ap is_done e.1 ∙ d;
 }
 
 -- nothing is done
@@ -207,17 +217,19 @@ ends_in wire (Some trace) = is_end_on wire trace
 abbrev Settled : ℕ → Stage → List Answer → Option Event → Type 0
 Settled wire after shut trace =
     ((shut ≡ was_shut wire ∷ []) × (after ≡ Over) × (ends_in wire trace ≡ true))
-    ⊎ ((shut ≡ []) × (has_wire after ≡ true) × (is_done after ≡ true → ends_in wire trace ≡ true))
+    ⊎ ((shut ≡ []) × (has_wire after ≡ true) × (is_done after ≡ true → ends_in wire trace ≡ true) × (ends_in wire trace ≡ true → is_done after ≡ true))
 
 falls-settled : (x after : Lane) (shut : List Answer) (trace : Option Event) → Falls x after shut trace → Settled x.wire after.stage shut trace
 falls-settled x after shut trace h = inl (h.0, ap (λ (l : Lane). l.stage) h.2, ap (λ o. ends_in x.wire o) h.1 ∙ same x.wire)
 
-passes-settled : (wire : ℕ) (mid after : Lane) (shut : List Answer) (trace heard : Option Event) → has_wire mid.stage ≡ true → (is_done mid.stage ≡ true → ends_in wire trace ≡ true) → Passes mid after shut trace heard →
+passes-settled : (wire : ℕ) (mid after : Lane) (shut : List Answer) (trace heard : Option Event) → has_wire mid.stage ≡ true → (is_done mid.stage ≡ true → ends_in wire trace ≡ true) →
+    (ends_in wire trace ≡ true → is_done mid.stage ≡ true) → Passes mid after shut trace heard →
     Settled wire after.stage shut heard
-passes-settled wire mid after shut trace heard has done h = inr (
+passes-settled wire mid after shut trace heard has done over h = inr (
   h.0,
   ap (λ (l : Lane). has_wire l.stage) h.2 ∙ has,
   λ d. ap (λ o. ends_in wire o) h.1 ∙ done (sym (ap (λ (l : Lane). is_done l.stage) h.2) ∙ d),
+  λ t. ap (λ (l : Lane). is_done l.stage) h.2 ∙ over (sym (ap (λ o. ends_in wire o) h.1) ∙ t),
 )
 
 settles-settled : (now : ℕ) (x after : Lane) (shut : List Answer) (what : Input) (trace : Option Event) → x.stage ≡ Live → Settles now x after shut what trace → Settled x.wire after.stage shut trace
@@ -230,17 +242,17 @@ settles-settled now x after shut what trace live s = go what s where
 
   nothing : (b : Bool) → Chooses b (Falls x after shut trace) (Passes x after shut None trace) → Settled x.wire after.stage shut trace
   nothing true f = falls-settled x after shut trace f
-  nothing false f = passes-settled x.wire x after shut None trace has (λ d. undone d) f
+  nothing false f = passes-settled x.wire x after shut None trace has (λ d. undone d) (λ t. absurd (cc t)) f
 
   go : (what : Input) → Settles now x after shut what trace → Settled x.wire after.stage shut trace
   go input.Nothing s = nothing (is_overdue now x) s
-  go (input.Request request) s = passes-settled x.wire x after shut _ trace has (λ d. undone d) s
-  go (input.Refused refusal) s = passes-settled x.wire _ after shut _ trace refl (λ d. same x.wire) s
-  go (input.Response status body) s = passes-settled x.wire x after shut _ trace has (λ d. undone d) s
-  go input.Upgraded s = passes-settled x.wire _ after shut _ trace has (λ d. undone d) s
-  go (input.Message bytes) s = passes-settled x.wire x after shut _ trace has (λ d. undone d) s
+  go (input.Request request) s = passes-settled x.wire x after shut _ trace has (λ d. undone d) (λ t. absurd (cc t)) s
+  go (input.Refused refusal) s = passes-settled x.wire _ after shut _ trace refl (λ d. same x.wire) (λ t. refl) s
+  go (input.Response status body) s = passes-settled x.wire x after shut _ trace has (λ d. undone d) (λ t. absurd (cc t)) s
+  go input.Upgraded s = passes-settled x.wire _ after shut _ trace has (λ d. undone d) (λ t. absurd (cc t)) s
+  go (input.Message bytes) s = passes-settled x.wire x after shut _ trace has (λ d. undone d) (λ t. absurd (cc t)) s
   go input.Broken s = falls-settled x after shut trace s
-  go input.Gone s = passes-settled x.wire _ after shut _ trace refl (λ d. same x.wire) s
+  go input.Gone s = passes-settled x.wire _ after shut _ trace refl (λ d. same x.wire) (λ t. refl) s
 
 -- the loss of a lane whose wire was shut is heard
 loses-close : (wire : ℕ) (trace : Option Event) (said y : Lane) (own : Option Event) → said.wire ≡ wire → Loses trace said y own →
@@ -304,6 +316,7 @@ live-close now x y mine own live h = go (settles-settled now mid h.settled h.shu
         last = lasts (was_shut x.wire ∷ []) all (shut-alone x.wire);
         none = λ k. absurd (cc (sym k ∙ has));
         done = λ d. inr (lost.2 s.2);
+        stays = λ d. undone-live x.stage (ap is_live live) d;
       } where
         still : (after : Stage) → ((was_shut_in x.wire h.written ≡ true) × (has_wire after ≡ false)) ⊎ ((was_shut_in x.wire h.written ≡ false) × (has_wire after ≡ has_wire h.settled.stage)) →
             was_shut_in x.wire h.written ≡ false → has_wire after ≡ has_wire h.settled.stage
@@ -316,6 +329,7 @@ live-close now x y mine own live h = go (settles-settled now mid h.settled h.shu
         last = lasts h.written all said.last;
         none = λ k. absurd (cc (sym k ∙ has));
         done = λ d. which (lost.1 d);
+        stays = λ d. undone-live x.stage (ap is_live live) d;
       } where
         by : ((was_shut_in x.wire h.written ≡ true) × (has_wire h.said.stage ≡ false)) ⊎ ((was_shut_in x.wire h.written ≡ false) × (has_wire h.said.stage ≡ has_wire h.settled.stage)) → mine ≡ h.read ++ h.written →
             ((was_shut_in x.wire mine ≡ true) × (has_wire y.stage ≡ false)) ⊎ ((was_shut_in x.wire mine ≡ false) × (has_wire y.stage ≡ has_wire x.stage))
@@ -332,7 +346,7 @@ live-close now x y mine own live h = go (settles-settled now mid h.settled h.shu
 
 -- a call in which nothing ends
 more-ends : (wire : ℕ) (before after : Stage) (mine : List Answer) (ended : Bool) → Closes wire before after mine false → Closes wire before after mine ended
-more-ends wire before after mine ended c = record { ends = c.ends; last = c.last; none = c.none; done = λ d. go (c.done d) } where
+more-ends wire before after mine ended c = record { ends = c.ends; last = c.last; none = c.none; done = λ d. go (c.done d); stays = c.stays } where
   go : (is_done before ≡ true) ⊎ (false ≡ true) → (is_done before ≡ true) ⊎ (ended ≡ true)
   go (inl d) = inl d
   go (inr d) = absurd (cc d)
@@ -347,6 +361,7 @@ listens-close now x y mine own h = go x.stage refl h where
         last = subst (λ (l : List Answer). ShutLast x.wire l) (sym f.0) (shut-alone x.wire);
         none = λ k. absurd (cc (sym k ∙ ap has_wire e));
         done = λ d. inr (ap (λ o. ends_in x.wire o) f.1 ∙ same x.wire);
+        stays = λ d. undone-live x.stage (ap is_live e) d;
       })
       (λ mid t. live-close now x mid mine own e t)
       h
@@ -355,6 +370,7 @@ listens-close now x y mine own h = go x.stage refl h where
     last = subst (λ (l : List Answer). ShutLast x.wire l) (sym h.0) tt;
     none = λ k. h.0;
     done = λ d. inr (ap (λ o. ends_in x.wire o) h.1 ∙ same x.wire);
+    stays = λ d. ap (λ (l : Lane). is_done l.stage) h.2;
   }
   go Closing e h = more-ends x.wire x.stage y.stage mine (ends_in x.wire own) (says-close now x y mine h.1)
   go Over e h = more-ends x.wire x.stage y.stage mine (ends_in x.wire own) (idles x.wire x.stage y.stage mine h.0 (ap (λ (l : Lane). l.stage) h.2))
@@ -376,6 +392,42 @@ heard-ends wire (Some trace) what h = ap (λ v. is_end_on wire v) h
 heeds-close : (now : ℕ) (what : Event) (x y : Lane) (mine : List Answer) → Heeds now what x y mine → Closes x.wire x.stage y.stage mine (is_end_on x.wire what)
 heeds-close now what x y mine (inl h) = subst (λ b. Closes x.wire x.stage y.stage mine b) (sym (heard-ends x.wire h.0 what h.2)) (listens-close now x y mine h.0 h.1)
 heeds-close now what x y mine (inr h) = more-ends x.wire x.stage y.stage mine (is_end_on x.wire what) (bystander-close now x y mine h.0)
+
+-- ---- a lane that is heard as ended is done
+
+loses-over : (wire : ℕ) (trace : Option Event) (said y : Lane) (own : Option Event) → Loses trace said y own → (ends_in wire trace ≡ true → is_done said.stage ≡ true) → ends_in wire own ≡ true → is_done y.stage ≡ true
+loses-over wire (Some here) said y own h over t = ap (λ (l : Lane). is_done l.stage) h.1 ∙ over (sym (ap (λ o. ends_in wire o) h.0) ∙ t)
+loses-over wire None said y own h over t = go said.stage h where
+  none : own ≡ None → is_done y.stage ≡ true
+  none e = absurd (cc (sym (ap (λ o. ends_in wire o) e) ∙ t))
+
+  go : (s : Stage) → LosesAt s said y own → is_done y.stage ≡ true
+  go Live h = none h.0
+  go Lost h = ap (λ (l : Lane). is_done l.stage) h.1
+  go Closing h = none h.0
+  go Over h = none h.0
+
+live-over : (now : ℕ) (x y : Lane) (mine : List Answer) (own : Option Event) → x.stage ≡ Live → TurnsLive now x y mine own → ends_in x.wire own ≡ true → is_done y.stage ≡ true
+live-over now x y mine own live h t =
+    loses-over x.wire h.trace h.said y own h.loses (λ e. (says-close now h.settled h.said h.written h.says).stays (settled (settles-settled now (after_hearing h.protocol x) h.settled h.shut h.input h.trace live h.settles) e)) t where
+      settled : Settled x.wire h.settled.stage h.shut h.trace → ends_in x.wire h.trace ≡ true → is_done h.settled.stage ≡ true
+      settled (inl s) e = ap is_done s.1
+      settled (inr s) e = s.3 e
+
+listens-over : (now : ℕ) (x y : Lane) (mine : List Answer) (own : Option Event) → Listens now x y mine own → ends_in x.wire own ≡ true → is_done y.stage ≡ true
+listens-over now x y mine own h t = go x.stage refl h where
+  none : (o : Option Event) → own ≡ o → ends_in x.wire o ≡ false → is_done y.stage ≡ true
+  none o e f = absurd (cc (sym (ap (λ o. ends_in x.wire o) e ∙ f) ∙ t))
+
+  go : (s : Stage) → x.stage ≡ s → TurnsAt s now x y mine own → is_done y.stage ≡ true
+  go Live e h = by-fullness (λ (l : Lane). is_done l.stage ≡ true) now x y mine own (λ d f s. none (Some (event.Drained x.wire)) f refl) (λ s f. ap (λ (l : Lane). is_done l.stage) f.2) (λ mid k. live-over now x mid mine own e k t) h
+  go Lost e h = ap (λ (l : Lane). is_done l.stage) h.2
+  go Closing e h = none None h.0 refl
+  go Over e h = none None h.1 refl
+
+pub heeds-over : (now : ℕ) (what : Event) (x y : Lane) (mine : List Answer) → Heeds now what x y mine → is_end_on x.wire what ≡ true → is_done y.stage ≡ true
+heeds-over now what x y mine (inl h) e = listens-over now x y mine h.0 h.1 (sym (heard-ends x.wire h.0 what h.2) ∙ e)
+heeds-over now what x y mine (inr h) e = absurd (cc (sym (unended x.wire what h.1) ∙ e))
 
 -- ---- saying
 
@@ -436,6 +488,7 @@ shuts-close now x y mine h = go (is_live x.stage) refl h where
         last = c.last;
         none = λ k. absurd (cc (sym k ∙ has));
         done = λ d. inr refl;
+        stays = λ d. undone-live x.stage e d;
       }
   go false e h = more-ends x.wire x.stage y.stage mine true (idles x.wire x.stage y.stage mine h.0 (ap (λ (l : Lane). l.stage) h.1))
 

@@ -1,12 +1,12 @@
 -- In a session of a dialer a lane is heard as lost for a cause, a wire is shut once, for a cause, and no more waits than may.
-use Rattle.std.proofs.Common.{◌≡◌, ◌⊎◌, ◌≤◌, ◌==◌, ◌||◌, ◌++◌, ◌∷◌, [], ℕ, Bool, true, false, List, Option, None, Some, refl, sym, ap, ◌∙◌, subst, inl, inr, length, Contains, append-nil, append_assoc, ◌&&◌, is_some}
+use Rattle.std.proofs.Common.{◌≡◌, ◌⊎◌, ◌≤◌, ◌==◌, ◌||◌, ◌++◌, ◌∷◌, [], ℕ, Bool, true, false, not, List, Option, None, Some, refl, sym, ap, ◌∙◌, subst, inl, inr, length, Contains, append-nil, append_assoc, ◌&&◌, is_some}
 use Rattle.hw_door.specs.declared.heard.Address.{Address}
 use Rattle.hw_door.specs.declared.heard.Event.TheVariants as event
 use Rattle.hw_door.specs.declared.heard.Upgrade.{Upgrade}
 use Rattle.hw_door.specs.Traffic.{Answer, read_on}
 use Rattle.hw_net.specs.declared.protocol.Stage.TheVariants.{Live}
 use Rattle.hw_net.specs.declared.limits.TheConstants.{MOST_UNWRITTEN}
-use Rattle.hw_net.specs.Bounds.{IsWithin}
+use Rattle.hw_net.specs.Bounds.{IsWithin, has_wire}
 use Rattle.hw_net.specs.Dialer.{DialerState, IsCutShort}
 use Rattle.hw_net.specs.DialerSessions as dialer
 use Rattle.hw_net.specs.DialerSessions.{DialedDrainedWereFull, DialedFullnessIsTold, DialedLanesAreBounded, DialedLanesHaveWires, DialedLossesHaveCauses, DialedWiresAreShutForACause, DialedWiresAreShutOnce, DialerCall, DialerSession, DoesDialed, DoesOnLane, UndialedAreMissed, all_on_wires, asked, cut, does, idle, is_cut, missed, missed_in, on_wires, text_of, undialed_in}
@@ -19,7 +19,7 @@ use Rattle.hw_net.proofs.Closings.{ClosedBy, ShutLast, cause-of, closes-more, en
 use Rattle.hw_net.proofs.DialerWalks.{before-on-wires, dialed-mover, each-dialed, each-on-wires, strides-in, untouched-dialed}
 use Rattle.hw_net.proofs.Fillings.{IsTold, heeds-drained, step-told}
 use Rattle.hw_net.proofs.Losses.{IsCaused, heeds-loss, loss-cause, step-caused, unlost}
-use Rattle.hw_net.proofs.Moves.{has-of}
+use Rattle.hw_net.proofs.Moves.{Has, has-of}
 use Rattle.hw_net.proofs.Owed.{by-number}
 use Rattle.hw_net.proofs.Owning.{is_on}
 use Rattle.hw_net.proofs.Shares.{equal, same, share, shut-share}
@@ -88,8 +88,12 @@ step-closed call calls x y k h = subst (λ n. ClosedBy (dialer.is_done_on n (cal
 dialed-closed : (calls : List Call) (now wire : ℕ) (text : List ℕ) (upgrade : Option Upgrade) → IsUntouched wire calls → IsClosed calls (dialed_lane now wire text upgrade)
 dialed-closed calls now wire text upgrade h = (shut-share wire (answers_of calls) ∙ ap (λ l. was_shut_in wire l) h.answers, λ d. absurd (cc d))
 
+pub wired : (addresses : List Address) (calls : List DialerCall) (bound : ℕ) (now : DialerState) → DialerSession addresses calls bound now → (lane : Lane) → Has now.door.lanes lane →
+    was_shut_in lane.wire (answers_of (all_on_wires calls)) ≡ not (has_wire lane.stage)
+wired addresses calls bound now h lane has = (each-on-wires addresses IsClosed dialed-closed step-closed calls bound now h lane has).0
+
 pub dialed-have-wires : DialedLanesHaveWires
-dialed-have-wires addresses calls bound now h lane has = (each-on-wires addresses IsClosed dialed-closed step-closed calls bound now h lane (has-of now.door.lanes lane has)).0
+dialed-have-wires addresses calls bound now h lane has = wired addresses calls bound now h lane (has-of now.door.lanes lane has)
 
 pub dialed-shut-for-a-cause : DialedWiresAreShutForACause
 dialed-shut-for-a-cause addresses call calls bound now h wire e uncut =

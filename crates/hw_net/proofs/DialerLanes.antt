@@ -12,7 +12,7 @@ use Rattle.hw_net.proofs.DialerWalks.{strides-in}
 use Rattle.hw_net.proofs.Shares.{same}
 
 -- each number lies below this bound by its wire, and is that of the ask there
-abbrev AreAsked : List DialerCall → ℕ → List LaneWire → Type 0
+abbrev pub AreAsked : List DialerCall → ℕ → List LaneWire → Type 0
 AreAsked calls bound [] = Unit {0}
 AreAsked calls bound (number ∷ numbers) = (number.wire + 1 ≤ bound) × (number.lane ≡ lane_asked_on number.wire calls) × AreAsked calls bound numbers
 
@@ -42,7 +42,7 @@ on-lane calls lane (session.shut wire answers) bound before after d h = subst (�
 on-lane calls lane (session.wrote wire answers) bound before after d h = subst (λ (s : DialerState). AreAsked calls bound s.numbers) (sym d.1) h
 on-lane calls lane (session.replied wire reply answers) bound before after d h = absurd d
 
-each-asked : (addresses : List Address) (calls : List DialerCall) (bound : ℕ) (now : DialerState) → DialerSession addresses calls bound now → AreAsked calls bound now.numbers
+pub each-asked : (addresses : List Address) (calls : List DialerCall) (bound : ℕ) (now : DialerState) → DialerSession addresses calls bound now → AreAsked calls bound now.numbers
 each-asked addresses [] bound now h = subst (λ (s : DialerState). AreAsked [] bound s.numbers) (sym h) tt
 each-asked addresses (does lane call ∷ calls) bound now h =
     wider calls (does lane call ∷ calls) h.0 bound now.numbers (strides-in addresses (does lane call) calls bound now h).bounds (λ wire le. refl)

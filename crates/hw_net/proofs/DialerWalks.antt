@@ -287,7 +287,7 @@ strides-in addresses call calls bound now h = strides addresses call h.0 bound h
 
 -- on a wire that hasn't come nothing was done
 pub untouched-dialed : (addresses : List Address) (calls : List DialerCall) (bound : ℕ) (now : DialerState) (wire : ℕ) → DialerSession addresses calls bound now → bound ≤ wire → IsUntouched wire (all_on_wires calls)
-untouched-dialed addresses [] bound now wire h le = record { answers = refl; requests = refl; messages = refl; replies = refl; owed = refl; full = refl; answered = refl }
+untouched-dialed addresses [] bound now wire h le = record { answers = refl; requests = refl; messages = refl; replies = refl; owed = refl; full = refl; answered = refl; idle = refl; unsent = refl }
 untouched-dialed addresses (call ∷ calls) bound now wire h le =
     let step = strides-in addresses call calls bound now h in
     let off = step.past wire le in

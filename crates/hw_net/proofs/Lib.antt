@@ -33,6 +33,7 @@ pub mod Closings
 pub mod Losses
 pub mod Shifts
 pub mod Fillings
+pub mod Speaking
 pub mod Lasting
 pub mod Sockets
 pub mod Said
@@ -50,3 +51,6 @@ pub mod DialerVoices
 pub mod DialerEnds
 pub mod DialerLanes
 pub mod DialerResponses
+pub mod DialerSockets
+pub mod DialerTold
+pub mod DialerAfter

@@ -16,9 +16,10 @@ use Rattle.hw_net.specs.Sessions as session
 use Rattle.hw_net.specs.Sessions.{Call, is_end_on, is_owed_on, is_request_on, refusal_on, replies_on, request_on, requests_on, goes_on, sent_on}
 use Rattle.hw_net.specs.Trace.{Chooses}
 use Rattle.hw_net.specs.Turn.{Replies, Sends, Shuts}
-use Rattle.hw_net.proofs.Awaiting.{IsAsKnown, Speaks, bystander-speech, heeds-speech, heeds-stands, new-known, no-parts, sends-speech, shuts-speech, step-known}
+use Rattle.hw_net.proofs.Awaiting.{IsAsKnown, heeds-stands, new-known, no-parts, step-known}
 use Rattle.hw_net.proofs.Counting.{hears_no_request, Lives, IsFree, bystander-live, heeds-free, sends-live, shuts-live}
-use Rattle.hw_net.proofs.Lasting.{IsLasting, new-lasting, step-lasting}
+use Rattle.hw_net.proofs.Speaking.{Speaks, bystander-speech, heeds-speech, sends-speech, shuts-speech}
+use Rattle.hw_net.proofs.Lasting.{IsLasting, lasts-there, new-lasting, step-lasting}
 use Rattle.hw_net.proofs.Moves.{has-of}
 use Rattle.hw_net.proofs.Owed.{IsOwed, by-number, new-owed, step-owed}
 use Rattle.hw_net.proofs.Shares.{equal}
@@ -39,7 +40,7 @@ HoldsOn wire calls lane =
     Holds (given_on wire calls) (replies_on wire calls) (refusals_on wire calls) (awaits_on wire calls) (sent_on wire calls) (given_since wire calls) lane
 
 abbrev IsTold : List Call → Lane → Type 0
-IsTold calls lane = IsAsKnown calls lane × IsOwed calls lane × IsLasting calls lane × (AreAwaited calls → HoldsOn lane.wire calls lane)
+IsTold calls lane = IsAsKnown calls lane × IsOwed calls lane × IsLasting false calls lane × (AreAwaited calls → HoldsOn lane.wire calls lane)
 
 no-refusal : (wire : ℕ) (what : Event) → is_end_on wire what ≡ false → refusal_on wire what ≡ []
 no-refusal wire (event.Refused at refusal) h = ap (λ b. if b then refusal_of refusal ∷ [] else []) h
@@ -198,7 +199,7 @@ told-here (session.replied at reply answers) calls x y k h all =
 told-here (session.sent at bytes text full answers) calls x y k h all =
     by-number at (Sends h.0 bytes text) x y _ (λ b. Holds (given_on x.wire calls) (replies_on x.wire calls) (refusals_on x.wire calls) (awaits_on x.wire calls)
     (if b && goes_on x.wire calls then sent_on x.wire calls ++ m ∷ [] else sent_on x.wire calls) (if b then given_since x.wire calls ++ m ∷ [] else given_since x.wire calls) y)
-    (λ s. other-holds x y _ _ _ _ _ _ (lives x y (sends-live h.0 bytes text x y _ s)) (sends-speech h.0 bytes text x y _ s) (more (goes_on x.wire calls) k.2 (k.3 all)))
+    (λ s. other-holds x y _ _ _ _ _ _ (lives x y (sends-live h.0 bytes text x y _ s)) (sends-speech h.0 bytes text x y _ s) (more (goes_on x.wire calls) (lasts-there (is_live x.stage) (goes_on x.wire calls) x.protocol k.2) (k.3 all)))
     (λ s e. as-lane x y _ _ _ _ _ _ s (k.3 all)) h.1 where
       m : Sent
       m = record { is_text = text; bytes = bytes }
@@ -237,7 +238,7 @@ step-told : (call : Call) (calls : List Call) (x y : Lane) → IsTold calls x �
 step-told call calls x y k h = (
   step-known call calls x y k.0 h,
   step-owed call calls x y k.1 h,
-  step-lasting call calls x y k.1 k.2 h,
+  step-lasting false call calls x y k.1 k.2 h,
   λ all. subst (λ n. HoldsOn n (call ∷ calls) y) (sym (moves-wire call x y h)) (told-here call calls x y k h all),
 )
 

@@ -10,7 +10,7 @@ use Rattle.hw_net.specs.Door.{DoorState, HearsNext, IsNumbered, kept, time_to_wa
 use Rattle.hw_net.specs.Lane.{Lane, wires_of, refusal_of, is_full, is_over}
 use Rattle.hw_net.specs.Rising.{IsRising}
 use Rattle.hw_net.specs.Saying.{WritesIfLive}
-use Rattle.hw_net.specs.Sessions.{Call, heard, replied, sent, shut, wrote, Does, Session, answers_in, answers_of, request_on, requests_on, message_on, messages_on, is_request_on, is_owed_on, refusal_on, replies_on, was_shut_in, came_in, is_drained_on, was_full_on}
+use Rattle.hw_net.specs.Sessions.{Call, heard, replied, sent, shut, wrote, Does, Session, answers_in, answers_of, request_on, requests_on, message_on, messages_on, is_request_on, is_owed_on, is_end_on, refusal_on, replies_on, was_shut_in, came_in, is_drained_on, is_upgrade_on, was_full_on, goes_on, sent_on}
 use Rattle.hw_net.specs.Trace.{Chooses}
 use Rattle.hw_net.specs.Turn.{Listens, Replies, Sends, Shuts}
 use Rattle.hw_net.proofs.Bystanders.{SaysOrStays, live-says}
@@ -304,6 +304,16 @@ unanswered wire (event.Lost at) h = refl
 unanswered wire (event.Drained at) h = refl
 unanswered wire event.Quiet h = refl
 
+pub unupgraded : (wire : ℕ) (what : Event) → is_on wire what ≡ false → is_upgrade_on wire what ≡ false
+unupgraded wire (event.Request at request) h = refl
+unupgraded wire (event.Refused at refusal) h = refl
+unupgraded wire (event.Bytes at bytes) h = refl
+unupgraded wire (event.Response at status body) h = refl
+unupgraded wire (event.Upgraded at) h = h
+unupgraded wire (event.Lost at) h = refl
+unupgraded wire (event.Drained at) h = refl
+unupgraded wire event.Quiet h = refl
+
 -- nothing was heard or said on a lane, and its wire wasn't called
 pub record IsUntouched (wire : ℕ) (calls : List Call) : Type 0 where
   pub answers : share wire (answers_of calls) ≡ []
@@ -313,6 +323,8 @@ pub record IsUntouched (wire : ℕ) (calls : List Call) : Type 0 where
   pub owed : is_owed_on wire calls ≡ false
   pub full : was_full_on wire calls ≡ false
   pub answered : is_answered_on wire calls ≡ false
+  pub idle : goes_on wire calls ≡ false
+  pub unsent : sent_on wire calls ≡ []
 
 and-false : (a : Bool) → (a && false) ≡ false
 and-false true = refl
@@ -370,6 +382,30 @@ untouched-answered wire (sent at bytes text full answers) calls off e = e
 untouched-answered wire (shut at answers) calls off e = e
 untouched-answered wire (wrote at answers) calls off e = e
 
+untouched-idle : (wire : ℕ) (call : Call) (calls : List Call) → IsElsewhere wire call → is_owed_on wire calls ≡ false → goes_on wire calls ≡ false → goes_on wire (call ∷ calls) ≡ false
+untouched-idle wire (heard what answers) calls off owed e =
+    ap (λ b. not (is_end_on wire what.event) && (not (was_shut_in wire answers) && (b || goes_on wire calls))) (unupgraded wire what.event off)
+    ∙ ap (λ b. not (is_end_on wire what.event) && (not (was_shut_in wire answers) && b)) e
+    ∙ ap (λ b. not (is_end_on wire what.event) && b) (and-false (not (was_shut_in wire answers))) ∙ and-false (not (is_end_on wire what.event))
+untouched-idle wire (replied at reply answers) calls off owed e =
+    ap (λ b. not (was_shut_in wire answers) && (((at == wire) && b) || goes_on wire calls)) owed
+    ∙ ap (λ b. not (was_shut_in wire answers) && (b || goes_on wire calls)) (and-false (at == wire))
+    ∙ ap (λ b. not (was_shut_in wire answers) && b) e ∙ and-false (not (was_shut_in wire answers))
+untouched-idle wire (sent at bytes text full answers) calls off owed e = ap (λ b. not (was_shut_in wire answers) && b) e ∙ and-false (not (was_shut_in wire answers))
+untouched-idle wire (shut at answers) calls off owed e =
+    ap (λ b. not (at == wire) && (not (was_shut_in wire answers) && b)) e ∙ ap (λ b. not (at == wire) && b) (and-false (not (was_shut_in wire answers))) ∙ and-false (not (at == wire))
+untouched-idle wire (wrote at answers) calls off owed e = ap (λ b. not (was_shut_in wire answers) && b) e ∙ and-false (not (was_shut_in wire answers))
+
+untouched-sent : (wire : ℕ) (call : Call) (calls : List Call) → is_owed_on wire calls ≡ false → goes_on wire calls ≡ false → sent_on wire calls ≡ [] → sent_on wire (call ∷ calls) ≡ []
+untouched-sent wire (heard what answers) calls owed idle e = e
+untouched-sent wire (replied at reply answers) calls owed idle e =
+    ap (λ b. if (at == wire) && b then [] else sent_on wire calls) owed ∙ ap (λ b. if b then [] else sent_on wire calls) (and-false (at == wire)) ∙ e
+untouched-sent wire (sent at bytes text full answers) calls owed idle e =
+    ap (λ b. if (at == wire) && b then sent_on wire calls ++ record { is_text = text; bytes = bytes } ∷ [] else sent_on wire calls) idle
+    ∙ ap (λ b. if b then sent_on wire calls ++ record { is_text = text; bytes = bytes } ∷ [] else sent_on wire calls) (and-false (at == wire)) ∙ e
+untouched-sent wire (shut at answers) calls owed idle e = e
+untouched-sent wire (wrote at answers) calls owed idle e = e
+
 -- nor is it in a call elsewhere
 pub untouched-more : (wire : ℕ) (call : Call) (calls : List Call) → share wire (answers_in call) ≡ [] → IsElsewhere wire call → IsUntouched wire calls → IsUntouched wire (call ∷ calls)
 untouched-more wire call calls none off before = record {
@@ -380,10 +416,12 @@ untouched-more wire call calls none off before = record {
   owed = untouched-owed wire call calls off before.owed;
   full = untouched-full wire call calls off before.full;
   answered = untouched-answered wire call calls off before.answered;
+  idle = untouched-idle wire call calls off before.owed before.idle;
+  unsent = untouched-sent wire call calls before.owed before.idle before.unsent;
 }
 
 pub untouched : (calls : List Call) (bound : ℕ) (now : DoorState) (wire : ℕ) → Session calls bound now → bound ≤ wire → IsUntouched wire calls
-untouched [] bound now wire h le = record { answers = refl; requests = refl; messages = refl; replies = refl; owed = refl; full = refl; answered = refl }
+untouched [] bound now wire h le = record { answers = refl; requests = refl; messages = refl; replies = refl; owed = refl; full = refl; answered = refl; idle = refl; unsent = refl }
 untouched (call ∷ calls) bound now wire h le =
     let step = steps-in call calls bound now h in
     let before = untouched calls h.0 h.1 wire h.2 (omega (arith, step.bounds, le)) in

@@ -1,5 +1,5 @@
 -- Sessions of a dialer: its calls since it started, and what they hear, ask and shut, put together.
-use Rattle.std.specs.Prelude.{◌≡◌, ◌⊎◌, ◌+◌, ◌==◌, ◌||◌, ℕ, Bool, true, false, not, max, if◌then◌else◌, List, [], ◌∷◌, ◌++◌, Contains, Option, None, Some, map, option_map, slice_get, unwrap_or, ⊤}
+use Rattle.std.specs.Prelude.{◌≡◌, ◌≢◌, ◌⊎◌, ◌+◌, ◌==◌, ◌&&◌, ◌||◌, ℕ, Bool, true, false, not, max, if◌then◌else◌, List, [], ◌∷◌, ◌++◌, Contains, Option, None, Some, map, option_map, slice_get, unwrap_or, ⊤}
 use Rattle.hw_lanes.specs.declared.http.Method.{Method}
 use Rattle.hw_door.specs.declared.heard.Address.{Address}
 use Rattle.hw_door.specs.declared.heard.Event.{Event}
@@ -24,7 +24,7 @@ use Rattle.hw_net.specs.LaneNumbers.{lane_on, wire_of}
 use Rattle.hw_net.specs.ResponseState.{Answers, IsBeginning}
 use Rattle.hw_net.specs.Saying.{WritesIfLive}
 use Rattle.hw_net.specs.Sessions as door
-use Rattle.hw_net.specs.Sessions.{Call, IsGone, IsLostRightly, IsSpoiled, are_about, is_end_on, was_full_on, was_shut_in}
+use Rattle.hw_net.specs.Sessions.{Call, IsCarried, IsGone, IsLostRightly, IsSpoiled, are_about, by_ask, is_end_on, messages_on, sent_on, was_full_on, was_shut_in}
 use Rattle.hw_net.specs.Turn.{Sends, Shuts}
 
 -- what is asked on a lane of this number, at the address of this place
@@ -147,6 +147,19 @@ LanesKeepWires =
     (addresses : List Address) (calls : List DialerCall) (bound : ℕ) (now : DialerState) → DialerSession addresses calls bound now
     → (number : LaneWire) → Contains now.numbers number → number.lane ≡ lane_asked_on number.wire calls
 
+-- something is heard on the lane of this wire in this call, sent, or shut
+abbrev pub IsOnWire : ℕ → Call → Type 0
+IsOnWire wire (door.heard what answers) = (lane_of what.event ≡ wire) × (what.event ≢ event.Quiet)
+IsOnWire wire (door.sent at bytes text full answers) = at ≡ wire
+IsOnWire wire (door.shut at answers) = at ≡ wire
+IsOnWire wire _ = ⊥
+
+-- the lane of which that is told is the one that asked there
+abbrev pub LanesAreThoseAsked : Type 0
+LanesAreThoseAsked =
+    (addresses : List Address) (lane : ℕ) (call : Call) (calls : List DialerCall) (bound : ℕ) (now : DialerState) → DialerSession addresses (does lane call ∷ calls) bound now
+    → (wire : ℕ) → IsOnWire wire call → lane ≡ lane_asked_on wire calls
+
 -- What was written on a lane's wire, and then what waits, is the text of its ask. On a lane that became a WebSocket its frames follow. No lane of a dialer
 -- waits for requests.
 abbrev pub WroteAsk : List Address → List DialerCall → Lane → Protocol → Type 0
@@ -192,19 +205,37 @@ ResponsesAreGiven =
     × ((rest : List ℕ) × Answers (option_map expected_of (upgrade_on (lane_of what.event) calls))
     (read_on (lane_of what.event) (answers_of (does lane (door.heard what answers) ∷ calls))) rest heard)
 
--- A lane of a dialer on which none was heard, and may be, has read nothing, or the beginning of a response.
+-- On a lane of a dialer a response was heard as soon as a whole one was read: none was exactly if it may still come, and then nothing was read there, or the
+-- beginning of one. On a lane that became a WebSocket its upgrade was.
 abbrev pub AwaitsResponse : List DialerCall → ℕ → Protocol → Type 0
 AwaitsResponse calls wire (Http http_state) = ⊥
 AwaitsResponse calls wire (Response response_state) =
-    response_state.concluded ≡ false
-    → (is_answered_on wire (all_on_wires calls) ≡ false) × ((read_on wire (answers_of calls) ≡ []) ⊎ IsBeginning (read_on wire (answers_of calls)))
-AwaitsResponse calls wire (Socket websocket_state) = ⊤
+    (is_answered_on wire (all_on_wires calls) ≡ response_state.concluded)
+    × (is_answered_on wire (all_on_wires calls) ≡ false → (read_on wire (answers_of calls) ≡ []) ⊎ IsBeginning (read_on wire (answers_of calls)))
+AwaitsResponse calls wire (Socket websocket_state) = is_answered_on wire (all_on_wires calls) ≡ true
 
--- so it is of each live one
+-- so it is of each live one: what was read as a response isn't heard only where the lane was lost or shut
 abbrev pub ResponsesAreAwaited : Type 0
 ResponsesAreAwaited =
     (addresses : List Address) (calls : List DialerCall) (bound : ℕ) (now : DialerState) → DialerSession addresses calls bound now
     → (lane : Lane) → Contains now.door.lanes lane → is_live lane.stage ≡ true → AwaitsResponse calls lane.wire lane.protocol
+
+-- ---- what WebSockets do
+
+-- A lane that became a WebSocket carries one that was opened by its ask. No lane of a dialer waits for requests.
+abbrev pub CarriesDialed : List Address → List DialerCall → Lane → Protocol → Type 0
+CarriesDialed addresses calls lane (Http http_state) = ⊥
+CarriesDialed addresses calls lane (Response response_state) = ⊤
+CarriesDialed addresses calls lane (Socket websocket_state) =
+    IsCarried (is_live lane.stage) (read_on lane.wire (answers_of calls)) (written_on lane.wire (answers_of calls) ++ waits lane)
+    (by_ask (upgrade_on lane.wire calls) (text_on addresses lane.wire calls)) (messages_on lane.wire (all_on_wires calls)) (sent_on lane.wire (all_on_wires calls))
+    websocket_state.lane
+
+-- so it is of each lane
+abbrev pub DialedSocketsAreCarried : Type 0
+DialedSocketsAreCarried =
+    (addresses : List Address) (calls : List DialerCall) (bound : ℕ) (now : DialerState) → DialerSession addresses calls bound now
+    → (lane : Lane) → Contains now.door.lanes lane → CarriesDialed addresses calls lane lane.protocol
 
 -- ---- how lanes end
 
@@ -242,6 +273,29 @@ is_done_on wire [] = false
 is_done_on wire (door.heard what answers ∷ calls) = is_end_on wire what.event || is_done_on wire calls
 is_done_on wire (door.shut at answers ∷ calls) = (at == wire) || is_done_on wire calls
 is_done_on wire (_ ∷ calls) = is_done_on wire calls
+
+-- since it asked on a wire, the loss of the lane there was heard
+abbrev pub is_lost_on : ℕ → List DialerCall → Bool
+is_lost_on wire [] = false
+is_lost_on wire (does lane (door.heard what answers) ∷ calls) = is_end_on wire what.event || is_lost_on wire calls
+is_lost_on wire (asked ask (Some at) answers ∷ calls) = not (at == wire) && is_lost_on wire calls
+is_lost_on wire (_ ∷ calls) = is_lost_on wire calls
+
+-- since then the caller shut it
+abbrev pub is_shut_on : ℕ → List DialerCall → Bool
+is_shut_on wire [] = false
+is_shut_on wire (does lane (door.shut at answers) ∷ calls) = (at == wire) || is_shut_on wire calls
+is_shut_on wire (asked ask (Some at) answers ∷ calls) = not (at == wire) && is_shut_on wire calls
+is_shut_on wire (_ ∷ calls) = is_shut_on wire calls
+
+-- Nothing is heard of a lane once its loss was. Once the caller shut it nothing is but its loss, and that only where its wire had been shut.
+abbrev pub NothingIsHeardAfter : Type 0
+NothingIsHeardAfter =
+    (addresses : List Address) (lane : ℕ) (what : Heard) (answers : List Answer) (calls : List DialerCall) (bound : ℕ) (now : DialerState)
+    → DialerSession addresses (does lane (door.heard what answers) ∷ calls) bound now
+    → (wire : ℕ) → IsOnWire wire (door.heard what answers)
+    → (is_lost_on wire calls ≡ false)
+    × (is_shut_on wire calls ≡ true → (what.event ≡ event.Lost wire) × (was_shut_in wire (answers_of calls) ≡ true))
 
 -- the call is an ask that memory cut short
 abbrev pub is_cut : DialerCall → Bool

@@ -1,5 +1,5 @@
 -- Sessions of a door: its calls since it started, and what they hear, say and shut, put together.
-use Rattle.std.specs.Prelude.{◌≡◌, ◌⊎◌, ◌==◌, ◌&&◌, ◌||◌, ℕ, Bool, true, false, not, if◌then◌else◌, List, [], ◌∷◌, ◌++◌, length, Contains, None, Some, ⊤}
+use Rattle.std.specs.Prelude.{◌≡◌, ◌⊎◌, ◌==◌, ◌&&◌, ◌||◌, ℕ, Bool, true, false, not, if◌then◌else◌, List, [], ◌∷◌, ◌++◌, length, Contains, Option, None, Some, option_map, unwrap_or, ⊤}
 use Rattle.hw_lanes.specs.declared.http.Refusal.{Refusal}
 use Rattle.hw_lanes.specs.declared.http.Reply.{Reply}
 use Rattle.hw_lanes.specs.declared.http.Request.{Request}
@@ -9,6 +9,7 @@ use Rattle.hh_http.specs.Texts.{continue_text, reply_text}
 use Rattle.hw_door.specs.declared.heard.Event.{Event}
 use Rattle.hw_door.specs.declared.heard.Event.TheVariants as event
 use Rattle.hw_door.specs.declared.heard.Heard.{Heard}
+use Rattle.hw_door.specs.declared.heard.Upgrade.{Upgrade}
 use Rattle.hw_door.specs.Traffic.{Answer, accepted, bytes_in, not_yet, ended, read_failed, bytes_out, write_failed, was_shut, read_on, written_on}
 use Rattle.hw_socket.specs.Calls as socket_calls
 use Rattle.hw_socket.specs.Lane as socket
@@ -16,16 +17,18 @@ use Rattle.hw_socket.specs.Reading.{Feeds, Takes}
 use Rattle.hw_socket.specs.Sending.{Sent}
 use Rattle.hw_socket.specs.declared.vocabulary.Ending.TheVariants.{BadText}
 use Rattle.hw_socket.specs.declared.vocabulary.SocketRead.TheVariants as read
+use Rattle.hw_socket.specs.declared.vocabulary.SocketSide.{SocketSide}
 use Rattle.hw_socket.specs.declared.vocabulary.SocketSide.TheVariants as side
+use Rattle.hw_net.specs.declared.input.Input.TheVariants.{Upgraded}
 use Rattle.hw_net.specs.declared.limits.TheConstants.{SWITCHING}
 use Rattle.hw_net.specs.declared.protocol.Stage.TheVariants.{Lost, Over}
 use Rattle.hw_net.specs.declared.protocol.Protocol.{Protocol}
 use Rattle.hw_net.specs.declared.protocol.Protocol.TheVariants.{Http, Response, Socket}
 use Rattle.hw_net.specs.Bounds.{has_wire}
-use Rattle.hw_net.specs.ResponseState.{Fails}
+use Rattle.hw_net.specs.ResponseState.{Answers, Fails}
 use Rattle.hw_net.specs.Door.{DoorState, HearsNext, KeepsLanes, DoesAt, is_full_at}
 use Rattle.hw_net.specs.Flushing.{FlushesDoor, HearsGathered}
-use Rattle.hw_net.specs.Lane.{Lane, waits, is_full, is_live, refusal_of, is_overdue, is_stalled}
+use Rattle.hw_net.specs.Lane.{Lane, waits, expected_of, is_full, is_live, refusal_of, is_overdue, is_stalled}
 use Rattle.hw_net.specs.Saying.{WritesIfLive, is_too_much}
 use Rattle.hw_net.specs.Turn.{Replies, Sends, Shuts}
 
@@ -332,11 +335,17 @@ messages_on lane [] = []
 messages_on lane (heard what answers ∷ calls) = messages_on lane calls ++ message_on lane what.event
 messages_on lane (_ ∷ calls) = messages_on lane calls
 
--- A lane goes on: a reply was said there, and since the last one neither its loss nor a refusal was heard, the caller didn't shut it, and its wire wasn't
--- shut.
+-- the upgrade is heard on this lane
+abbrev pub is_upgrade_on : ℕ → Event → Bool
+is_upgrade_on lane (event.Upgraded at) = at == lane
+is_upgrade_on lane _ = false
+
+-- A lane goes on: a reply was said there, or its upgrade was heard, and since the last one neither its loss nor a refusal was heard, the caller didn't shut
+-- it, and its wire wasn't shut.
 abbrev pub goes_on : ℕ → List Call → Bool
 goes_on lane [] = false
-goes_on lane (heard what answers ∷ calls) = not (is_end_on lane what.event) && (not (was_shut_in lane answers) && goes_on lane calls)
+goes_on lane (heard what answers ∷ calls) =
+    not (is_end_on lane what.event) && (not (was_shut_in lane answers) && (is_upgrade_on lane what.event || goes_on lane calls))
 goes_on lane (replied at reply answers ∷ calls) = not (was_shut_in lane answers) && (((at == lane) && is_owed_on lane calls) || goes_on lane calls)
 goes_on lane (sent at bytes text full answers ∷ calls) = not (was_shut_in lane answers) && goes_on lane calls
 goes_on lane (shut at answers ∷ calls) = not (at == lane) && (not (was_shut_in lane answers) && goes_on lane calls)
@@ -350,14 +359,35 @@ sent_on lane (sent at bytes text full answers ∷ calls) =
     if (at == lane) && goes_on lane calls then sent_on lane calls ++ record { is_text = text; bytes = bytes } ∷ [] else sent_on lane calls
 sent_on lane (_ ∷ calls) = sent_on lane calls
 
--- What a WebSocket did, as calls of a fresh one that keeps all that it has to write. It was fed with what the requests leave of the bytes
--- read, but for some that are lost if it isn't heard any more. Its payloads are the messages heard. And the bytes written, or that wait, are the texts
--- of the replies, and then what it wrote. It took the messages that were given while its lane went on, in order, but for those from a text on that was none;
--- and that is why it is gone if it still is heard.
-pub record IsCarried (live : Bool) (came wrote : List ℕ) (requests : List Request) (messages : List (List ℕ)) (given : List Sent) (replies : List Reply) (now : socket.Lane) : Type 0 where
+-- The opening handshake of a WebSocket (RFC 6455, 4): a door's lane heard these requests and said these replies, of which the last is its upgrade; or this text
+-- was asked on a dialer's, for this upgrade.
+pub data Opening : Type 0 where
+  by_reply : List Request → List Reply → Opening
+  by_ask : Option Upgrade → List ℕ → Opening
+
+-- its side: a client's masks are made from the seed that was given with the ask
+abbrev pub side_of : Opening → SocketSide
+side_of (by_reply requests replies) = side.Server
+side_of (by_ask upgrade text) = side.Client (unwrap_or (option_map (λ (asked : Upgrade). asked.seed) upgrade) [])
+
+-- these bytes were read for it, and leave this: they are the requests, or the response that accepts the upgrade that was asked for
+abbrev pub Leaves : Opening → List ℕ → List ℕ → Type 0
+Leaves (by_reply requests replies) front rest = Asks front requests rest
+Leaves (by_ask upgrade text) front rest = Answers (option_map expected_of upgrade) front rest Upgraded
+
+-- these bytes were written for it: they are the texts of the replies, or of the ask
+abbrev pub Opens : Opening → List ℕ → Type 0
+Opens (by_reply requests replies) texts = AreTextsOf replies texts
+Opens (by_ask upgrade text) texts = texts ≡ text
+
+-- What a WebSocket did, as calls of a fresh one of its side that keeps all that it has to write. It was fed with what its opening leaves of the bytes
+-- read, and then with all others, but for some that are lost if it isn't heard any more. Its payloads are the messages heard. And the bytes written, or that
+-- wait, are those of its opening, and then what it wrote. It took the messages that were given while its lane went on, in order, but for those from a text on
+-- that was none; and that is why it is gone if it still is heard.
+pub record IsCarried (live : Bool) (came wrote : List ℕ) (opening : Opening) (messages : List (List ℕ)) (given : List Sent) (now : socket.Lane) : Type 0 where
   pub calls : List socket_calls.Call
   pub keeps : socket.Lane
-  pub runs : socket_calls.Session (socket.fresh_lane side.Server) calls keeps
+  pub runs : socket_calls.Session (socket.fresh_lane (side_of opening)) calls keeps
   pub undropped : socket_calls.dropped calls ≡ []
   pub same : now ≡ record keeps { out = record keeps.out { bytes = now.out.bytes } }
   pub front : List ℕ
@@ -366,23 +396,24 @@ pub record IsCarried (live : Bool) (came wrote : List ℕ) (requests : List Requ
   pub lost : List ℕ
   pub parts : came ≡ front ++ (more ++ lost)
   pub whole : live ≡ true → lost ≡ []
-  pub asks : Asks front requests rest
+  pub leaves : Leaves opening front rest
   pub fed : socket_calls.fed calls ≡ rest ++ more
   pub heard_all : socket_calls.heard calls ≡ messages
   pub texts : List ℕ
-  pub said : AreTextsOf replies texts
+  pub opens : Opens opening texts
   pub wrote_all : wrote ≡ texts ++ keeps.out.bytes
   pub unsent : List Sent
   pub sent_all : given ≡ socket_calls.said calls ++ unsent
   pub took_all : (unsent ≡ []) ⊎ (now.ending ≡ Some BadText)
   pub sound : live ≡ true → (now.ending ≡ None) ⊎ (now.ending ≡ Some BadText)
 
+-- a lane that became a WebSocket carries one that was opened so; no lane of a door awaits a response
 abbrev pub CarriesSocket : List Call → Lane → Protocol → Type 0
 CarriesSocket calls lane (Http http_state) = ⊤
 CarriesSocket calls lane (Response response_state) = ⊥
 CarriesSocket calls lane (Socket websocket_state) =
     IsCarried (is_live lane.stage) (read_on lane.wire (answers_of calls)) (written_on lane.wire (answers_of calls) ++ waits lane)
-    (requests_on lane.wire calls) (messages_on lane.wire calls) (sent_on lane.wire calls) (replies_on lane.wire calls) websocket_state.lane
+    (by_reply (requests_on lane.wire calls) (replies_on lane.wire calls)) (messages_on lane.wire calls) (sent_on lane.wire calls) websocket_state.lane
 
 -- so it is of each lane that became a WebSocket
 abbrev pub SocketsAreCarried : Type 0

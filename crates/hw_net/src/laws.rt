@@ -6,7 +6,7 @@ ghost use Rattle.hw_net.specs.Bounds.{FailsAreWithin, FlushesAreWithin, HaltsAre
 ghost use Rattle.hw_net.specs.Chains.{CallsAreASession, CallsSplit};
 ghost use Rattle.hw_net.specs.DialerChains.{CallsAreADialerSession};
 ghost use Rattle.hw_net.specs.DialerNumbers.{AsksRise};
-ghost use Rattle.hw_net.specs.DialerSessions.{AsksAreWritten, DialedDrainedWereFull, DialedFullnessIsTold, DialedLanesAreBounded, DialedLanesHaveWires, DialedLossesHaveCauses, DialedWiresAreShutForACause, DialedWiresAreShutOnce, LanesKeepWires, ResponsesAreAwaited, ResponsesAreGiven, UndialedAreMissed};
+ghost use Rattle.hw_net.specs.DialerSessions.{AsksAreWritten, DialedDrainedWereFull, DialedFullnessIsTold, DialedLanesAreBounded, DialedLanesHaveWires, DialedLossesHaveCauses, DialedSocketsAreCarried, DialedWiresAreShutForACause, DialedWiresAreShutOnce, LanesAreThoseAsked, LanesKeepWires, NothingIsHeardAfter, ResponsesAreAwaited, ResponsesAreGiven, UndialedAreMissed};
 ghost use Rattle.hw_net.specs.Limits.{piece, most_unwritten, most_gathered, most_gathered_bytes, most_before_full, most_drained, most_stalled, most_wait, most_closing, most_named, switching};
 ghost use Rattle.hw_net.specs.Numbers.{FlushesKeepNumbers, NumbersRise, RepliesKeepNumbers, SendsKeepNumbers, ShutsKeepNumbers};
 ghost use Rattle.hw_net.specs.Reaching.{OthersListen, LanesAreReached};
@@ -100,10 +100,11 @@ pub fn replies_are_written()
 {}
 
 /// In any session of a dialer the bytes written on a lane's wire, and then those that wait, are the text of its ask, and then the frames of its WebSocket, if it
-/// became one. A lane stands on the wire on which it asked.
+/// became one. A lane stands on the wire on which it asked, and what is heard, sent and shut on a wire is told of the lane that asked there.
 pub fn asks_are_written()
     ensures written { AsksAreWritten }
     ensures lanes { LanesKeepWires }
+    ensures told { LanesAreThoseAsked }
 {}
 
 /// A request is heard on a lane only once each one before it there was replied to.
@@ -136,18 +137,20 @@ pub fn losses_have_causes()
 {}
 
 /// A response that is heard on a dialed lane is the first there, and the one with which all bytes begin that were read on its wire, in whatever pieces. The lane of
-/// an ask for a WebSocket is heard as upgraded exactly if that is a 101 which accepts its own key. A live lane on which none was heard, and which may still
-/// hear one, has read the beginning of one, or nothing.
+/// an ask for a WebSocket is heard as upgraded exactly if that is a 101 which accepts its own key. A live lane on which none was heard has read the beginning
+/// of one, or nothing: so each response that is read is heard, unless its lane is lost or shut before.
 pub fn responses_are_given()
     ensures given { ResponsesAreGiven }
     ensures awaited { ResponsesAreAwaited }
 {}
 
 /// A lane of a dialer is heard as lost only for one of the causes of a door's, where what it waits for is its response, or because what came is no response, or
-/// a 101 that isn't the upgrade that was asked for. A lane that stands on no wire is lost because its ask went nowhere: once, and in the order of the asks.
+/// a 101 that isn't the upgrade that was asked for. A lane that stands on no wire is lost because its ask went nowhere: once, and in the order of the asks. Nothing is
+/// heard of a lane after its loss, and of one that the caller shut nothing but its loss, where its wire was shut before.
 pub fn dialed_losses_have_causes()
     ensures causes { DialedLossesHaveCauses }
     ensures missed { UndialedAreMissed }
+    ensures last { NothingIsHeardAfter }
 {}
 
 /// The wire of a dialed lane is shut only if the lane is heard no more but for its loss, or if memory was out for its ask; and only once, and then nothing is read
@@ -188,4 +191,10 @@ pub fn lanes_are_reached()
 /// are the messages heard, and what it wrote stands behind the replies.
 pub fn sockets_are_carried()
     ensures { SocketsAreCarried }
+{}
+
+/// So does a lane of a dialer, from its upgrade on. It is a client's, with the masks of the seed that was given with the ask, is fed with what the response leaves
+/// of the bytes read and then with all others, and what it wrote stands behind the ask.
+pub fn dialed_sockets_are_carried()
+    ensures { DialedSocketsAreCarried }
 {}

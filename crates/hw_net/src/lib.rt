@@ -104,7 +104,8 @@
 //! Proved of each call of a dialer: an `ask` begins at most one connection, and its text waits on the lane; `next` hears the losses of asks that went nowhere
 //! first, and then polls and searches as a door does, without accepting; `send`, `shut` and `flush` do on a lane's wire what a door's do. No lane comes twice
 //! ([`asks_rise`]). Over whole sessions, which its calls are if none of `next` failed ([`dialer_calls_are_a_session`]), what is written is the ask and then frames
-//! ([`asks_are_written`]), what is heard is the response that the bytes read begin with ([`responses_are_given`]), and a lane is lost and a wire shut for a cause
+//! ([`asks_are_written`]), what is heard is the response that the bytes read begin with ([`responses_are_given`]), after its upgrade a lane is one WebSocket
+//! ([`dialed_sockets_are_carried`]), and a lane is lost and a wire shut for a cause
 //! ([`dialed_losses_have_causes`], [`dialed_wires_are_shut_for_a_cause`]). `has_unwritten` tells whether something waits to be written on a lane whose wire wasn't shut.
 //!
 //! The crate doesn't know what a request means, what a message says, sockets, nor clocks: moments are those that the wires polled.
@@ -138,11 +139,12 @@ pub use dialer::NetDialer;
 pub use door::NetDoor;
 pub use laws::{
     asks_are_written, asks_rise, calls_are_a_session, closing_ends, dialed_fullness_is_told,
-    dialed_lanes_are_bounded, dialed_losses_have_causes, dialed_wires_are_shut_for_a_cause,
-    dialer_calls_are_a_session, flushes_are_calls, fullness_is_told, lanes_are_bounded,
-    lanes_are_reached, limits_are_named, losses_have_causes, numbers_rise, replies_are_said,
-    replies_are_written, requests_are_asked, requests_are_free, requests_wait_for_replies,
-    responses_are_given, sockets_are_carried, wires_are_shut_for_a_cause,
+    dialed_lanes_are_bounded, dialed_losses_have_causes, dialed_sockets_are_carried,
+    dialed_wires_are_shut_for_a_cause, dialer_calls_are_a_session, flushes_are_calls,
+    fullness_is_told, lanes_are_bounded, lanes_are_reached, limits_are_named, losses_have_causes,
+    numbers_rise, replies_are_said, replies_are_written, requests_are_asked, requests_are_free,
+    requests_wait_for_replies, responses_are_given, sockets_are_carried,
+    wires_are_shut_for_a_cause,
 };
 pub use limits::{
     MOST_BEFORE_FULL, MOST_CLOSING, MOST_DRAINED, MOST_GATHERED, MOST_GATHERED_BYTES, MOST_NAMED,
