@@ -68,6 +68,33 @@ far read 0 => read hello
 far write 0 hi => wrote 2
 near read 0 => read hi
 
+note why a connection couldn't be made is told until one is made
+listen => listens
+near why => none
+near dial-all => failed
+near why => unreachable
+near dial => wire 0
+near why => unreachable
+far accept => wire 0
+far write 0 hi => wrote 2
+near read 0 => read hi
+near why => none
+leave => left
+near dial => wire 1
+near read 1 => failed
+near why => refused
+near write 1 hello => failed
+near why => refused
+near read 0 => ended
+near why => refused
+return => listens
+near dial => wire 2
+near why => refused
+far accept => wire 0
+far write 0 hi => wrote 2
+near read 2 => read hi
+near why => none
+
 note wires are named in turn until a read gives nothing
 listen => listens
 peer connect => peer 0

@@ -3,7 +3,11 @@
 //! ```text
 //! listen                   the far wires listen anew, at a port that is free, and the near ones dial; there are no peers then: `listens`
 //! taken                    whether each call of wires fails that listen at that port too
+//! leave                    the far wires are no more: `left`
+//! return                   other far wires listen where those did: `listens`
 //! near dial                a near wire begins to connect to the far ones: `wire PLACE`
+//! near dial-all            a near wire is to connect to all hosts at once, which no connection can: `failed`
+//! near why                 why a connection couldn't be made: `refused`, `unreachable`, `another reason` or `none`
 //! far ..                   asks the far wires (`sides` has what), and `near ..` the near ones
 //! peer ..                  asks a plain socket (`peers` has what)
 //! ```
@@ -16,9 +20,15 @@ use ht_kit::{Play, Stop, told};
 use hw_door::Wires;
 use hw_mio::MioWires;
 use std::alloc::{AllocError, Global};
+use std::io::ErrorKind;
 use std::net::{IpAddr, Ipv4Addr};
 
 const HERE: IpAddr = IpAddr::V4(Ipv4Addr::LOCALHOST);
+
+const HERE_TEXT: &str = "127.0.0.1";
+
+/// The address of a broadcast (RFC 919), where nobody has a connection.
+const ALL_HOSTS: &str = "255.255.255.255";
 
 /// The first of the ports that are tried.
 const FIRST_PORT: u16 = 47_800;
@@ -68,6 +78,18 @@ impl<'a> Bench<'a> {
         Ok(self.far.wires.start_error().is_none())
     }
 
+    fn leave(&mut self) -> Result<String, Stop> {
+        self.far = dialing(self.rt, self.alloc)?;
+        told(self.alloc, "left")
+    }
+
+    fn come_back(&mut self) -> Result<String, Stop> {
+        if self.listen_at(self.port)? {
+            return told(self.alloc, "listens");
+        }
+        Err(Stop::Busy)
+    }
+
     /// Whether wires that listen at the port of the far ones fail.
     fn listen_again(&self) -> Result<String, Stop> {
         let mut again = listening(self.rt, self.alloc, self.port)?;
@@ -76,10 +98,12 @@ impl<'a> Bench<'a> {
     }
 
     fn ask_near(&mut self, words: &str) -> Result<String, Stop> {
-        if words == "dial" {
-            return self.near.dial(self.alloc, self.port);
+        match words {
+            "dial" => self.near.dial(self.alloc, HERE_TEXT, self.port),
+            "dial-all" => self.near.dial(self.alloc, ALL_HOSTS, self.port),
+            "why" => told(self.alloc, why(&self.near.wires)),
+            _ => self.near.ask(self.alloc, words),
         }
-        self.near.ask(self.alloc, words)
     }
 }
 
@@ -108,6 +132,18 @@ fn outcome(wires: &mut MioWires<'_, HostRuntime>) -> &'static str {
     }
 }
 
+/// Why a connection couldn't be made, if none was made since.
+fn why(wires: &MioWires<'_, HostRuntime>) -> &'static str {
+    let Some(error) = wires.connect_error() else {
+        return "none";
+    };
+    match error.kind() {
+        ErrorKind::ConnectionRefused => "refused",
+        ErrorKind::NetworkUnreachable => "unreachable",
+        _ => "another reason",
+    }
+}
+
 impl<'a> Play for Bench<'a> {
     fn carry_out(&mut self, line: &str) -> Result<String, Stop> {
         match line.split_once(' ') {
@@ -116,6 +152,8 @@ impl<'a> Play for Bench<'a> {
             Some(("peer", words)) => self.peers.ask(self.rt, self.alloc, self.port, words),
             None if line == "listen" => self.listen(),
             None if line == "taken" => self.listen_again(),
+            None if line == "leave" => self.leave(),
+            None if line == "return" => self.come_back(),
             _ => Err(Stop::Refused),
         }
     }

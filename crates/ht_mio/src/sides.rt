@@ -83,8 +83,8 @@ impl<W: Wires> Side<W> {
     }
 
     /// Begins a connection.
-    pub fn dial(&mut self, alloc: Global, port: u16) -> Result<String, Stop> {
-        let dialed = self.wires.connect("127.0.0.1", port);
+    pub fn dial(&mut self, alloc: Global, host: &str, port: u16) -> Result<String, Stop> {
+        let dialed = self.wires.connect(host, port);
         self.add(alloc, dialed.ok().ok_or(Stop::Failed)?)
     }
 

@@ -1,9 +1,9 @@
 //! Wires over sockets.
 
-ghost use Rattle.std.specs.Prelude.{◌≡◌, ◌≤◌, IfOk, OnErr, option_copied};
-ghost use Rattle.hd_facts.specs.Counts.{Rose};
-ghost use Rattle.hw_door.specs.Traffic.{IsNewWire};
-ghost use Rattle.hw_mio.specs.Standard.{start_error, wires_bound, wires_moment, wires_faults, IsAtStart, IsStill};
+ghost use Rattle.std.specs.Prelude.{◌≡◌, ◌≤◌, ◌⊎◌, IfOk, IsSome, MatchResult, OnErr, Some, length, option_copied};
+ghost use Rattle.hd_facts.specs.Counts.{HasCause, Rose};
+ghost use Rattle.hw_door.specs.Traffic.{CountsWithin, IsNewWire, connected_wire};
+ghost use Rattle.hw_mio.specs.Standard.{start_error, connect_error, wires_bound, wires_moment, wires_faults, Finds, IsAtStart, IsStill};
 
 use crate::endings::Endings;
 use crate::incoming::Incoming;
@@ -53,6 +53,7 @@ pub struct MioWires<'a, R> {
     // How many polls in a row left the system unasked.
     unasked: u64,
     moment: u64,
+    connect_error: Option<io::Error>,
     faults: u64,
 }
 
@@ -70,6 +71,14 @@ fn dispatch(events: &Events, table: &mut Table, incoming: Incoming) -> Incoming
         }
     }
     incoming
+}
+
+fn no_room() -> io::Error {
+    io::Error::new(io::ErrorKind::QuotaExceeded, "no room for a connection")
+}
+
+fn no_address() -> io::Error {
+    io::Error::new(io::ErrorKind::NotFound, "the name has no address")
 }
 
 impl<'a, R: Net + Clock> MioWires<'a, R> {
@@ -111,11 +120,12 @@ impl<'a, R: Net + Clock> MioWires<'a, R> {
             eager_polls: 0,
             unasked: 0,
             moment: 0,
+            connect_error: None,
             faults: 0,
         })
     }
 
-    /// Why the port can't be had, or why the system has no poll or no clock. Each `poll`, `accept` and `connect` fails then.
+    /// Why the port can't be had, or why the system has no poll. Each `poll`, `accept` and `connect` fails then.
     pub fn start_error(&self) -> Option<&io::Error>
         ensures { option_copied result ≡ start_error self.now }
     {
@@ -123,6 +133,15 @@ impl<'a, R: Net + Clock> MioWires<'a, R> {
             Ok(_) => None,
             Err(error) => Some(error),
         }
+    }
+
+    /// Why the last connection failed that is known to have failed: the error of its `connect`, or of the read or write on its wire that
+    /// was the first to give, take or fail. `None` if none failed yet, or one that was begun by `connect` is known to be made since: a read
+    /// gave bytes or an end there, or a write took some.
+    pub fn connect_error(&self) -> Option<&io::Error>
+        ensures { option_copied result ≡ connect_error self.now }
+    {
+        self.connect_error.as_ref()
     }
 
     /// Where it listens: with the port that the system gave, if it was asked for any. `None` if it listens nowhere.
@@ -184,12 +203,22 @@ impl<'a, R: Net + Clock> MioWires<'a, R> {
         Ok(self.events.iter().next().is_some())
     }
 
+    /// The instant that is moment 0: that of the first poll.
+    fn start_instant(&mut self) -> io::Result<Instant>
+        ensures others_unchanged { IsStill self.old self.new }
+        ensures wires { wires_bound self.new ≡ wires_bound self.old }
+    {
+        match &mut self.opened {
+            Ok(opened) => opened.start_instant(self.rt),
+            Err(error) => Err(*error),
+        }
+    }
+
     /// The milliseconds since the start, which never fall.
-    fn read_clock(&self) -> io::Result<u64>
+    fn read_clock(&self, start: Instant) -> io::Result<u64>
         ensures { IfOk result (λ now. wires_moment self.now ≤ now) }
     {
-        let opened = self.opened.as_ref().map_err(|error| *error)?;
-        let elapsed = Instant::now(self.rt)?.duration_since(opened.start);
+        let elapsed = Instant::now(self.rt)?.duration_since(start);
         let millis = u64::try_from(elapsed.as_millis()).unwrap_or(u64::MAX);
         Ok(millis.max(self.moment))
     }
@@ -248,22 +277,35 @@ impl<'a, R: Net + Clock> MioWires<'a, R> {
         }
     }
 
-    /// Begins a connection. It is `None` if there is no room for it, or the name has no address.
-    fn dial(&mut self, host: &str, port: u16) -> io::Result<Option<u64>>
-        ensures fresh { IfOk result (IsNewWire (wires_bound self.old) (wires_bound self.new)) }
+    /// Begins a connection.
+    fn dial(&mut self, host: &str, port: u16) -> io::Result<u64>
+        ensures fresh { IfOk result (λ wire. IsNewWire (wires_bound self.old) (wires_bound self.new) (Some wire)) }
         ensures err { OnErr result (wires_bound self.new ≡ wires_bound self.old) }
         ensures others_unchanged { IsStill self.old self.new }
     {
         let opened = self.opened.as_ref().map_err(|error| *error)?;
         if !self.table.has_room() {
-            return Ok(None);
+            return Err(no_room());
         }
         let Some(address) = (host, port).to_socket_addrs(self.rt)?.next() else {
-            return Ok(None);
+            return Err(no_address());
         };
         let stream = TcpStream::connect(self.rt, address)?;
         let _ = stream.set_nodelay(true);
-        Ok(self.table.add(opened.poll.registry(), stream, false))
+        match self.table.add(opened.poll.registry(), stream, false) {
+            Some(wire) => Ok(wire),
+            None => Err(no_room()),
+        }
+    }
+
+    /// Notes what a call on this wire found of the connection there, if it was connecting before and isn't any more.
+    fn note_connection(&mut self, wire: u64, was_connecting: bool, error: Option<io::Error>)
+        ensures others_unchanged { self.new ≡ record self.old { connect_error = self.new.connect_error } }
+        ensures noted { (connect_error self.new ≡ connect_error self.old) ⊎ (connect_error self.new ≡ error) }
+    {
+        if was_connecting && !self.table.is_connecting(wire) {
+            self.connect_error = error;
+        }
     }
 }
 
@@ -274,7 +316,11 @@ impl<'a, R: Net + Clock> Wires for MioWires<'a, R> {
 
     ghost faults = { λ w. w.faults };
 
+    /// Moment 0 is when the first poll begins, so what is done before it, such as the reading of a script, takes no time.
     fn poll(&mut self, wait: u64) -> Result<u64, Failed> {
+        let Ok(start) = self.start_instant() else {
+            return Err(self.fail());
+        };
         self.close_due();
         let eager_polls = if wait > 0 {
             self.eager_polls.saturating_sub(1)
@@ -291,7 +337,7 @@ impl<'a, R: Net + Clock> Wires for MioWires<'a, R> {
                 Err(_) => return Err(self.fail()),
             }
         }
-        let Ok(now) = self.read_clock() else {
+        let Ok(now) = self.read_clock(start) else {
             return Err(self.fail());
         };
         if !is_told {
@@ -313,16 +359,32 @@ impl<'a, R: Net + Clock> Wires for MioWires<'a, R> {
     }
 
     /// Looks the name up, which may wait for the system's resolver, and begins to connect to its first address.
-    fn connect(&mut self, host: &str, port: u16) -> Result<u64, Failed> {
+    fn connect(&mut self, host: &str, port: u16) -> Result<u64, Failed>
+        ensures fresh { IsNewWire (wires_bound self.old) (wires_bound self.new) (connected_wire result) }
+        ensures others_unchanged { wires_moment self.new ≡ wires_moment self.old }
+        ensures cause { HasCause (wires_faults self.old) (wires_faults self.new) result }
+        ensures why { MatchResult result (λ _. connect_error self.new ≡ connect_error self.old) (λ _. IsSome (connect_error self.new)) }
+    {
         match self.dial(host, port) {
-            Ok(Some(wire)) => Ok(wire),
-            Ok(None) => Err(self.fail()),
-            Err(_) => Err(self.fail()),
+            Ok(wire) => Ok(wire),
+            Err(error) => {
+                self.connect_error = Some(error);
+                Err(self.fail())
+            }
         }
     }
 
-    fn read(&mut self, wire: u64, buf: &mut [u8]) -> Result<WireRead, Failed> {
-        match self.table.read_wire(wire, buf) {
+    fn read(&mut self, wire: u64, buf: &mut [u8]) -> Result<WireRead, Failed>
+        ensures count { IfOk result (λ read. CountsWithin read (length buf.new)) }
+        ensures wires { wires_bound self.new ≡ wires_bound self.old }
+        ensures others_unchanged { wires_moment self.new ≡ wires_moment self.old }
+        ensures cause { HasCause (wires_faults self.old) (wires_faults self.new) result }
+        ensures why { Finds result self.old self.new }
+    {
+        let was_connecting = self.table.is_connecting(wire);
+        let read = self.table.read_wire(wire, buf);
+        self.note_connection(wire, was_connecting, read.err());
+        match read {
             Ok(WireRead::Some(count)) => {
                 self.eager_polls = EAGER_POLLS;
                 Ok(WireRead::Some(count))
@@ -333,8 +395,17 @@ impl<'a, R: Net + Clock> Wires for MioWires<'a, R> {
         }
     }
 
-    fn write(&mut self, wire: u64, bytes: &[u8]) -> Result<usize, Failed> {
-        match self.table.write_wire(wire, bytes) {
+    fn write(&mut self, wire: u64, bytes: &[u8]) -> Result<usize, Failed>
+        ensures count { IfOk result (λ count. count ≤ length bytes.now) }
+        ensures wires { wires_bound self.new ≡ wires_bound self.old }
+        ensures others_unchanged { wires_moment self.new ≡ wires_moment self.old }
+        ensures cause { HasCause (wires_faults self.old) (wires_faults self.new) result }
+        ensures why { Finds result self.old self.new }
+    {
+        let was_connecting = self.table.is_connecting(wire);
+        let written = self.table.write_wire(wire, bytes);
+        self.note_connection(wire, was_connecting, written.err());
+        match written {
             Ok(count) => Ok(count),
             Err(_) => Err(self.fail()),
         }

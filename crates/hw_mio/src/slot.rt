@@ -27,10 +27,12 @@ pub struct Live {
     is_closing: bool,
     // The peer's end was read.
     has_ended: bool,
+    // Its connection was begun here, and no call on the socket has shown yet whether it was made.
+    is_connecting: bool,
 }
 
 impl Live {
-    /// A wire, of which each call may do something at once if it `is_ready`. Else an event comes before.
+    /// A wire, of which each call may do something at once if it `is_ready`. Else its connection was only begun, and an event comes before.
     pub fn start(number: u64, stream: TcpStream, is_ready: bool) -> Live {
         Live {
             number,
@@ -40,6 +42,7 @@ impl Live {
             unmade: 0,
             is_closing: false,
             has_ended: false,
+            is_connecting: !is_ready,
         }
     }
 
@@ -177,7 +180,13 @@ impl Slot {
         ensures { IfOk result (λ read. CountsWithin read (length buf.new)) }
     {
         match self {
-            Slot::Live(live) if live.number == wire => live.read_socket(buf),
+            Slot::Live(live) if live.number == wire => {
+                let read = live.read_socket(buf);
+                if !matches!(read, Ok(WireRead::NotYet)) {
+                    live.is_connecting = false;
+                }
+                read
+            }
             _ => Err(absent()),
         }
     }
@@ -187,7 +196,13 @@ impl Slot {
         ensures { IfOk result (λ count. count ≤ length bytes.now) }
     {
         match self {
-            Slot::Live(live) if live.number == wire => live.write_socket(bytes),
+            Slot::Live(live) if live.number == wire => {
+                let written = live.write_socket(bytes);
+                if !matches!(written, Ok(0)) {
+                    live.is_connecting = false;
+                }
+                written
+            }
             _ => Err(absent()),
         }
     }
@@ -204,6 +219,14 @@ impl Slot {
     pub fn is_readable(&self) -> bool {
         match self {
             Slot::Live(live) => live.is_readable,
+            _ => false,
+        }
+    }
+
+    /// Whether the connection on the wire of this number was begun here, and no call on it has shown yet whether it was made.
+    pub fn is_connecting(&self, wire: u64) -> bool {
+        match self {
+            Slot::Live(live) => live.number == wire && live.is_connecting,
             _ => false,
         }
     }

@@ -179,6 +179,11 @@ impl Table {
         self.slots[slot_of(wire)].write_numbered(wire, bytes)
     }
 
+    /// Whether the connection on this wire was begun, and no read or write has shown yet whether it was made.
+    pub fn is_connecting(&self, wire: u64) -> bool {
+        self.slots[slot_of(wire)].is_connecting(wire)
+    }
+
     /// Shuts a wire, which is no more ready then.
     pub fn shut_wire(&mut self, wire: u64) -> Shut
         ensures { self.new ≡ self.old }
