@@ -1,4 +1,4 @@
--- Names that differ, and that texts, numbers, options, codecs and URLs say one value each.
+-- Names that differ, and that texts, numbers, options, codecs and URLs say one value each, and rows one user.
 use Rattle.std.proofs.Common.{◌≡◌, ◌∙◌, ℕ, List, Option, ap, Some, true, false, codes, refl, subst, sym}
 use Rattle.std.proofs.NetLemmas.Theorems.{IsIpText_unique}
 use Rattle.std.specs.Str.{bytes_eq}
@@ -10,12 +10,13 @@ use Rattle.hm_message.specs.declared.message.Codec.TheVariants.{Json, Pack}
 use Rattle.hn_dialing.specs.Addresses.{AddressesAreOne, IsAddress, IsSameAddress}
 use Rattle.hub_server.specs.Resend.{ResendLimits}
 use Rattle.hw_door.specs.declared.heard.Address.{Address}
+use Rattle.sr_words.specs.declared.adding.Adding.{Adding}
 use Rattle.sr_words.specs.declared.dialing.Dialing.{Dialing}
 use Rattle.sr_words.specs.declared.serving.Serving.{Serving}
 use Rattle.sr_words.specs.Clap.{IsNumber, SaysNumber}
 use Rattle.sr_words.specs.Resends.{IsResend}
 use Rattle.sr_words.specs.Lives.{IsLive}
-use Rattle.sr_words.specs.Words.{IsCodec, IsToken, SaysAddress, SaysDialing, SaysServing, client_options, codec_name, serve_options}
+use Rattle.sr_words.specs.Words.{IsCodec, IsGiven, SaysAdding, SaysAddress, SaysDialing, SaysServing, client_options, codec_name, serve_options}
 use Rattle.sr_words.proofs.Options.{agree}
 
 pub apart : (a b : Text) → bytes_eq a b ≡ false → a ≡ b → ⊥
@@ -36,9 +37,9 @@ same_codec Pack Pack e = refl
 one_codec : (text : Text) (a b : Codec) → IsCodec text a → IsCodec text b → a ≡ b
 one_codec text a b x y = same_codec a b (ap Some (sym x ∙ y))
 
--- a text that may be absent is one token
-one_token : (text a b : Option Text) → IsToken text a → IsToken text b → a ≡ b
-one_token text a b x y = x ∙ sym y
+-- a text that may be absent is one value
+one_given : (text a b : Option Text) → IsGiven text a → IsGiven text b → a ≡ b
+one_given text a b x y = x ∙ sym y
 
 -- a text is one number
 pub one_number : (bits : ℕ) (text : Text) (m n : ℕ) → IsNumber bits text m → IsNumber bits text n → m ≡ n
@@ -67,9 +68,17 @@ unfolding SaysServing
 same_serving rows a b x y =
     let same = agree serve_options rows a b (
       λ rows. one_number 16 _,
-      (λ rows s t is is_too. is.1 ∙ sym is_too.1, (λ rows. one_number 64 _, (λ rows. IsIpText_unique _, (λ rows. same_resend _, (λ rows. same_live _, tt))))),
+      (λ rows s t is is_too. is.1 ∙ sym is_too.1, (λ rows. one_number 64 _, (λ rows. IsIpText_unique _, (λ rows. same_resend _, (λ rows. same_live _, (λ rows. one_given _, tt)))))),
     ) x y in
-    λ i. record { port = same.0 i; base = same.1.0 i; turns = same.1.1.0 i; listen = same.1.1.1.0 i; resend = same.1.1.1.1.0 i; live = same.1.1.1.1.1.0 i }
+    λ i. record {
+      port = same.0 i;
+      base = same.1.0 i;
+      turns = same.1.1.0 i;
+      listen = same.1.1.1.0 i;
+      resend = same.1.1.1.1.0 i;
+      live = same.1.1.1.1.1.0 i;
+      store = same.1.1.1.1.1.1.0 i;
+    }
 
 -- but for the token, rows say one address
 same_address : AddressesAreOne → (rows : List Row) (a b : Address) → SaysAddress rows a → SaysAddress rows b → IsSameAddress a b
@@ -84,7 +93,7 @@ same_dialing one rows a b x y =
     let at = same_address one rows a.address b.address x.0 y.0 in
     let same = agree client_options rows a b (
       λ rows. one_codec _,
-      (λ rows. one_token _, (λ rows. one_number 64 _, (λ rows. same_resend _, tt))),
+      (λ rows. one_given _, (λ rows. one_number 64 _, (λ rows. same_resend _, tt))),
     ) x.1 y.1 in
     λ i. record {
       address = record { host = at.0 i; port = at.1 i; base = at.2 i; token = same.1.0 i };
@@ -92,3 +101,11 @@ same_dialing one rows a b x y =
       turns = same.1.1.0 i;
       resend = same.1.1.1.0 i;
     }
+
+-- rows ask for one user
+pub same_adding : (rows : List Row) (a b : Adding) → SaysAdding rows a → SaysAdding rows b → a ≡ b
+same_adding rows a b x y =
+    let token : a.token ≡ b.token = inside (sym x.0 ∙ y.0) in
+    let name : a.name ≡ b.name = inside (sym x.1 ∙ y.1) in
+    let store : a.store ≡ b.store = inside (sym x.2 ∙ y.2) in
+    λ i. record { token = token i; name = name i; store = store i }

@@ -22,6 +22,10 @@ optional name values = record (new_rule name) {
   range = Some (record { start_inclusive = values; end_inclusive = values });
 }
 
+-- an option `--NAME VALUE` that must be there
+abbrev pub required_option : Text → Rule
+required_option name = record (optional name 1) { required = true }
+
 -- no step of clap's parse of the words fails
 abbrev pub Takes : App → List Text → Type 0
 Takes app words = fault_of app words ≡ []

@@ -8,13 +8,14 @@ use Rattle.hm_message.specs.declared.message.Codec.{Codec}
 use Rattle.hm_message.specs.declared.message.Codec.TheVariants.{Json, Pack}
 use Rattle.hn_dialing.specs.Addresses.{IsAddress}
 use Rattle.hw_door.specs.declared.heard.Address.{Address}
+use Rattle.sr_words.specs.declared.adding.Adding.{Adding}
 use Rattle.sr_words.specs.declared.commands.Command.{Command}
-use Rattle.sr_words.specs.declared.commands.Command.TheVariants.{Replay, Soak, Check, Convert, Serve, Client}
+use Rattle.sr_words.specs.declared.commands.Command.TheVariants.{Replay, Soak, Check, Convert, Serve, Client, User}
 use Rattle.sr_words.specs.declared.dialing.Dialing.{Dialing}
 use Rattle.sr_words.specs.declared.serving.Serving.{Serving}
 use Rattle.sr_words.specs.declared.serving.Settings.{Settings}
 use Rattle.sr_words.specs.Base.{IsBase}
-use Rattle.sr_words.specs.Clap.{Gives, IsNumber, SaysNumber, Takes, bare_app, required}
+use Rattle.sr_words.specs.Clap.{Gives, IsNumber, SaysNumber, Takes, bare_app, required, required_option}
 use Rattle.sr_words.specs.Options.{Choice, SayAll, choice, choice_if_given, choice_of_two, told_of, with_options}
 use Rattle.sr_words.specs.Resends.{IsResend}
 use Rattle.sr_words.specs.Lives.{IsLive}
@@ -27,9 +28,9 @@ codec_name Pack = codes "pack"
 abbrev pub IsCodec : Text → Codec → Type 0
 IsCodec text codec = text ≡ codec_name codec
 
--- the token is the text that is given, if one is
-abbrev pub IsToken : Option Text → Option Text → Type 0
-IsToken text token = token ≡ text
+-- the value is the text that is given, if one is
+abbrev pub IsGiven : Option Text → Option Text → Type 0
+IsGiven text value = value ≡ text
 
 -- the most steps of a soak
 abbrev pub most_steps : ℕ
@@ -44,13 +45,14 @@ serve_options =
     ∷ choice (codes "listen") (codes "127.0.0.1") IsIpText (λ serving. serving.listen)
     ∷ choice_of_two (codes "resend") (codes "1024", codes "100000") IsResend (λ serving. serving.resend)
     ∷ choice (codes "live") (codes "10000") IsLive (λ serving. serving.live)
+    ∷ choice_if_given (codes "store") IsGiven (λ serving. serving.store)
     ∷ []
 
 -- the options of `client`
 abbrev pub client_options : List (Choice Dialing)
 client_options =
     choice (codes "codec") (codes "json") IsCodec (λ dialing. dialing.codec)
-    ∷ choice_if_given (codes "token") IsToken (λ dialing. dialing.address.token)
+    ∷ choice_if_given (codes "token") IsGiven (λ dialing. dialing.address.token)
     ∷ choice (codes "turns") (codes "18446744073709551615") (IsNumber 64) (λ dialing. dialing.turns)
     ∷ choice_of_two (codes "resend") (codes "1024", codes "100000") IsResend (λ dialing. dialing.resend)
     ∷ []
@@ -86,6 +88,16 @@ SaysAddress rows address = (text : Text) × ((first_of (codes "url") rows ≡ So
 unfoldable pub SaysDialing : List Row → Dialing → Type 0
 SaysDialing rows dialing = SaysAddress rows dialing.address × SayAll client_options rows dialing
 
+abbrev pub user_app : App
+user_app =
+    with_rule (with_rule (with_rule (bare_app (codes "user")) (required (codes "token"))) (required (codes "name"))) (required_option (codes "store"))
+
+-- what these rows give the arguments and the option of `user` is this
+abbrev pub SaysAdding : List Row → Adding → Type 0
+SaysAdding rows adding =
+    (first_of (codes "token") rows ≡ Some adding.token) × (first_of (codes "name") rows ≡ Some adding.name)
+    × (first_of (codes "store") rows ≡ Some adding.store)
+
 -- the command of this name, with these words after it, asks for this
 abbrev pub AsksAfter : Text → List Text → Command → Type 0
 AsksAfter name rest Replay = (name ≡ codes "replay") × Takes replay_app rest
@@ -101,6 +113,8 @@ AsksAfter name rest (Serve serving) =
     (name ≡ codes "serve") × Takes serve_app rest × SaysServing (matches_of serve_app rest) serving
 AsksAfter name rest (Client dialing) =
     (name ≡ codes "client") × Takes client_app rest × SaysDialing (matches_of client_app rest) dialing
+AsksAfter name rest (User adding) =
+    (name ≡ codes "user") × Takes user_app rest × SaysAdding (matches_of user_app rest) adding
 
 abbrev pub AsksNothingAfter : Text → List Text → Type 0
 AsksNothingAfter name rest = (command : Command) → AsksAfter name rest command → ⊥
@@ -115,17 +129,23 @@ Asks words command = (name : Text) × (rest : List Text) × (texts words ≡ nam
 abbrev pub IsNoCommand : List (String Global) → Type 0
 IsNoCommand words = (command : Command) → Asks words command → ⊥
 
--- what has to be known before the command can run: something of a server, and where a client dials
+-- what has to be known of a command that needs nothing outside but input and output
+abbrev pub no_settings : Settings
+no_settings = record { port = None; base = None; listen = None; live = None; store = None; address = None }
+
+-- what has to be known before the command can run: something of a server, where a client dials, and in which file a store is
 abbrev pub settings_of : Command → Settings
 settings_of (Serve serving) = record {
   port = Some serving.port;
   base = Some serving.base;
   listen = Some serving.listen;
   live = Some serving.live;
+  store = serving.store;
   address = None;
 }
-settings_of (Client dialing) = record { port = None; base = None; listen = None; live = None; address = Some dialing.address }
-settings_of _ = record { port = None; base = None; listen = None; live = None; address = None }
+settings_of (Client dialing) = record no_settings { address = Some dialing.address }
+settings_of (User adding) = record no_settings { store = Some adding.store }
+settings_of _ = no_settings
 
 -- these are the settings of the one command that the words ask for
 abbrev pub AreSettings : List (String Global) → Settings → Type 0

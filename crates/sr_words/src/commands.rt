@@ -1,5 +1,6 @@
 //! The commands of the program, as values: what the words of a command line come to.
 
+use crate::adding::Adding;
 use crate::dialing::Dialing;
 use crate::serving::Serving;
 use hm_message::Codec;
@@ -19,4 +20,6 @@ pub enum Command {
     Serve(Serving),
     /// To call methods of a hub by a script, over connections that are dialed.
     Client(Dialing),
+    /// To add a user to a store.
+    User(Adding),
 }

@@ -1,5 +1,6 @@
 //! What is said to a person whose words are no command. Nothing is promised of it: it is for reading.
 
+use crate::adding::USER_OPTIONS;
 use crate::choice::Choice;
 use crate::dialing::CLIENT_OPTIONS;
 use crate::error::WordsError;
@@ -10,7 +11,7 @@ use clap::ArgMatches;
 use std::alloc::{AllocError, Global};
 
 /// The commands that there are.
-const COMMANDS: &str = "the commands are replay, soak, serve, client, check and convert";
+const COMMANDS: &str = "the commands are replay, soak, serve, client, check, convert and user";
 
 /// What is wrong with words that are no command, and what the command that they name takes, in one line without its end.
 pub fn complaint(alloc: Global, words: &[String]) -> Result<String, AllocError> {
@@ -42,12 +43,13 @@ fn form_of(name: &str) -> Option<&'static str> {
         "serve" => Some(
             "--port N (up to 65535), --base PATH (it begins with / and doesn't end with one), --turns N (of 64 bits), \
              --listen ADDRESS (an IP address), --resend COUNT BYTES (1 to 65536, and 32773 to 524288), \
-             --live N (1 to 10000)",
+             --live N (1 to 10000), --store FILE",
         ),
         "client" => Some(
             "URL (http://HOST:PORT/BASE, without user, query and fragment), --codec CODEC (json or pack), --token TEXT, \
              --turns N (of 64 bits), --resend COUNT BYTES (1 to 65536, and 32773 to 524288)",
         ),
+        "user" => Some("TOKEN NAME --store FILE"),
         _ => None,
     }
 }
@@ -57,6 +59,7 @@ fn options_of(name: &str) -> Option<&'static [Choice]> {
     match name {
         "serve" => Some(SERVE_OPTIONS),
         "client" => Some(CLIENT_OPTIONS),
+        "user" => Some(USER_OPTIONS),
         _ => None,
     }
 }

@@ -6,6 +6,7 @@
 //! what a command does.
 #![tactic(auto)]
 
+mod adding;
 mod choice;
 mod commands;
 mod complaints;
@@ -15,6 +16,7 @@ mod reading;
 mod serving;
 mod words;
 
+pub use adding::Adding;
 pub use commands::Command;
 pub use complaints::complaint;
 pub use dialing::Dialing;

@@ -33,6 +33,10 @@ pub(crate) const SERVE_OPTIONS: &[Choice] = &[
         name: "live",
         values: 1,
     },
+    Choice {
+        name: "store",
+        values: 1,
+    },
 ];
 
 /// What `serve` is asked for.
@@ -50,15 +54,18 @@ pub struct Serving {
     pub resend: ResendLimits,
     /// How many connections may live at one moment.
     pub live: LiveLimit,
+    /// The path of the store's file, if the store is in a file.
+    pub store: Option<Text>,
 }
 
-/// What has to be known before the objects are made that a command runs over. Only `client` has an address, and only `serve` has
-/// the others.
+/// What has to be known before the objects are made that a command runs over. Only `client` has an address, only `serve`, if it is
+/// given, and `user` have the path of a store's file, and only `serve` has the others.
 #[derive(Drop, PartialEq, Eq)]
 pub struct Settings {
     pub port: Option<u16>,
     pub base: Option<Text>,
     pub listen: Option<IpAddr>,
     pub live: Option<LiveLimit>,
+    pub store: Option<Text>,
     pub address: Option<Address>,
 }

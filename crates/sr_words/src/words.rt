@@ -1,16 +1,18 @@
 //! What the words of a command line ask for, command by command.
 
-ghost use Rattle.std.specs.Prelude.{◌≡◌, ℕ, Err, IfOk, IfErr, Some, map, true, false, codes};
+ghost use Rattle.std.specs.Prelude.{◌≡◌, ℕ, List, Err, IfOk, IfErr, Some, map, true, false, codes};
 ghost use Rattle.clap.specs.Words.{app_of, rule_of, first_of, found_of, is_simple_and_free, matches_of, rows_of};
 ghost use Rattle.hd_facts.specs.Unique.{IsTheOne};
-ghost use Rattle.sr_words.specs.Clap.{SaysNumber, Takes, bare_app, optional, required};
+ghost use Rattle.sr_words.specs.Clap.{SaysNumber, Takes, bare_app, optional, required, required_option};
 ghost use Rattle.sr_words.specs.Options.{text_of, texts_of, with_options};
-ghost use Rattle.sr_words.specs.Words.{AreSettings, Asks, AsksAfter, AsksNothingAfter, IsNoCommand, SaysAddress, SaysDialing, SaysServing, check_app, client_app, codec_name, convert_app, replay_app, serve_app, soak_app, texts};
+ghost use Rattle.sr_words.specs.Words.{AreSettings, Asks, AsksAfter, AsksNothingAfter, IsNoCommand, SaysAdding, SaysAddress, SaysDialing, SaysServing, check_app, client_app, codec_name, convert_app, no_settings, replay_app, serve_app, settings_of, soak_app, texts, user_app};
 ghost use Rattle.hm_message.specs.declared.message.Codec.{Codec};
 ghost use Rattle.hw_door.specs.declared.heard.Address.{Address};
+ghost use Rattle.sr_words.specs.declared.adding.Adding.{Adding};
 ghost use Rattle.sr_words.specs.declared.dialing.Dialing.{Dialing};
 ghost use Rattle.sr_words.specs.declared.serving.Serving.{Serving};
 
+use crate::adding::Adding;
 use crate::choice::Choice;
 use crate::commands::Command;
 use crate::dialing::{CLIENT_OPTIONS, Dialing};
@@ -51,6 +53,14 @@ fn optional<'a>(alloc: Global, name: &'a str, values: usize) -> Arg<'a>
         .long(name)
         .action(ArgAction::Set)
         .num_args(values)
+}
+
+/// An option `--NAME VALUE` that must be there.
+fn required_option<'a>(alloc: Global, name: &'a str) -> Arg<'a>
+    ensures rule { rule_of result ≡ required_option name.now }
+    ensures local { result.global ≡ false }
+{
+    optional(alloc, name, 1).required(true)
 }
 
 /// The command with these options.
@@ -234,6 +244,7 @@ fn serving(alloc: Global, matches: &ArgMatches) -> Result<Serving, WordsError>
     let listen = address(text(matches, "listen", "127.0.0.1"))?;
     let resend = resend(texts(matches, "resend", ("1024", "100000")))?;
     let live = live(text(matches, "live", "10000"))?;
+    let store = given(alloc, matches, "store")?;
     Ok(Serving {
         port,
         base,
@@ -241,6 +252,7 @@ fn serving(alloc: Global, matches: &ArgMatches) -> Result<Serving, WordsError>
         listen,
         resend,
         live,
+        store,
     })
 }
 
@@ -315,6 +327,48 @@ fn client_words(alloc: Global, words: &[String]) -> Result<Command, WordsError>
     Ok(Command::Client(dialing(alloc, &matches)?))
 }
 
+/// The command `user TOKEN NAME --store FILE`.
+fn user_command<'a>(alloc: Global) -> Result<clap::Command<'a>, AllocError>
+    ensures { IfOk result (λ command. app_of command ≡ user_app) }
+{
+    let command = bare(alloc, "user").arg(required(alloc, "token"))?;
+    let command = command.arg(required(alloc, "name"))?;
+    command.arg(required_option(alloc, "store"))
+}
+
+/// The text of the argument or option of this name, which must be given.
+fn required_text(alloc: Global, matches: &ArgMatches, name: &str) -> Result<Text, WordsError>
+    ensures said { IfOk result (λ text. first_of name.now (rows_of (found_of matches.now)) ≡ Some text) }
+    ensures none { result ≡ Err WordsError.NoCommand
+        → (text : List ℕ) → first_of name.now (rows_of (found_of matches.now)) ≡ Some text → ⊥ }
+{
+    match given(alloc, matches, name)? {
+        Some(text) => Ok(text),
+        None => Err(WordsError::NoCommand),
+    }
+}
+
+/// Which user is to be added to which store, by the arguments and the option that clap found.
+fn adding(alloc: Global, matches: &ArgMatches) -> Result<Adding, WordsError>
+    ensures said { IfOk result (SaysAdding (rows_of (found_of matches.now))) }
+    ensures none { result ≡ Err WordsError.NoCommand
+        → (adding : Adding) → SaysAdding (rows_of (found_of matches.now)) adding → ⊥ }
+{
+    let token = required_text(alloc, matches, "token")?;
+    let name = required_text(alloc, matches, "name")?;
+    let store = required_text(alloc, matches, "store")?;
+    Ok(Adding { token, name, store })
+}
+
+/// What `user` asks for with these words after it.
+fn user_words(alloc: Global, words: &[String]) -> Result<Command, WordsError>
+    ensures ok { IfOk result (IsTheOne (AsksAfter (codes "user") (texts words.now))) }
+    ensures no_command { result ≡ Err WordsError.NoCommand → AsksNothingAfter (codes "user") (texts words.now) }
+{
+    let matches = matches_in(user_command(alloc)?, words)?;
+    Ok(Command::User(adding(alloc, &matches)?))
+}
+
 /// The command that the words of a command line ask for, without the program's name among them.
 ///
 /// # Errors
@@ -336,7 +390,47 @@ pub fn parse(alloc: Global, words: &[String]) -> Result<Command, WordsError>
         "convert" => convert_words(alloc, rest),
         "serve" => serve_words(alloc, rest),
         "client" => client_words(alloc, rest),
+        "user" => user_words(alloc, rest),
         _ => Err(WordsError::NoCommand),
+    }
+}
+
+/// The settings of a command that needs nothing outside but input and output.
+fn no_settings() -> Settings
+    ensures { result ≡ no_settings }
+{
+    Settings {
+        port: None,
+        base: None,
+        listen: None,
+        live: None,
+        store: None,
+        address: None,
+    }
+}
+
+/// What has to be known before this command can run.
+fn settings_of(command: Command) -> Settings
+    ensures { result ≡ settings_of command }
+{
+    match command {
+        Command::Serve(serving) => Settings {
+            port: Some(serving.port),
+            base: Some(serving.base),
+            listen: Some(serving.listen),
+            live: Some(serving.live),
+            store: serving.store,
+            address: None,
+        },
+        Command::Client(dialing) => Settings {
+            address: Some(dialing.address),
+            ..no_settings()
+        },
+        Command::User(adding) => Settings {
+            store: Some(adding.store),
+            ..no_settings()
+        },
+        _ => no_settings(),
     }
 }
 
@@ -349,27 +443,6 @@ pub fn settings(alloc: Global, words: &[String]) -> Result<Settings, WordsError>
     ensures ok { IfOk result (AreSettings words.now) }
     ensures no_command { result ≡ Err WordsError.NoCommand → IsNoCommand words.now }
 {
-    match parse(alloc, words)? {
-        Command::Serve(serving) => Ok(Settings {
-            port: Some(serving.port),
-            base: Some(serving.base),
-            listen: Some(serving.listen),
-            live: Some(serving.live),
-            address: None,
-        }),
-        Command::Client(dialing) => Ok(Settings {
-            port: None,
-            base: None,
-            listen: None,
-            live: None,
-            address: Some(dialing.address),
-        }),
-        _ => Ok(Settings {
-            port: None,
-            base: None,
-            listen: None,
-            live: None,
-            address: None,
-        }),
-    }
+    let command = parse(alloc, words)?;
+    Ok(settings_of(command))
 }

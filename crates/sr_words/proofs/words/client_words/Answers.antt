@@ -3,7 +3,7 @@ use Rattle.std.proofs.lemmas.Result.{err_from_is_err_and}
 use Rattle.clap.specs.Words.{App, Row, Text, is_simple_and_free, matches_of}
 use Rattle.hn_dialing.specs.Addresses.{AddressesAreOne}
 use Rattle.sr_words.specs.declared.commands.Command.{Command}
-use Rattle.sr_words.specs.declared.commands.Command.TheVariants.{Replay, Soak, Check, Convert, Serve, Client}
+use Rattle.sr_words.specs.declared.commands.Command.TheVariants.{Replay, Soak, Check, Convert, Serve, Client, User}
 use Rattle.sr_words.specs.declared.dialing.Dialing.{Dialing}
 use Rattle.sr_words.specs.declared.error.WordsError.{WordsError}
 use Rattle.hd_facts.specs.Unique.{IsTheOne}
@@ -24,6 +24,7 @@ the_one one rest dialing takes says = record { holds = (refl, takes, says); only
     only (Convert from to) asks = absurd (apart (codes "client") (codes "convert") refl asks.0)
     only (Serve serving) asks = absurd (apart (codes "client") (codes "serve") refl asks.0)
     only (Client other) asks = ap Client (same_dialing one (matches_of client_app rest) other dialing asks.2 says)
+    only (User adding) asks = absurd (apart (codes "client") (codes "user") refl asks.0)
 
 -- the rows that clap found for the words say what its rows for them say
 says_too : (own : App) (words : List Text) (rows : List Row) (dialing : Dialing) → own ≡ client_app → rows ≡ matches_of own words
@@ -39,6 +40,7 @@ nothing rest none (Check codec) asks = apart (codes "client") (codes "check") re
 nothing rest none (Convert from to) asks = apart (codes "client") (codes "convert") refl asks.0
 nothing rest none (Serve serving) asks = apart (codes "client") (codes "serve") refl asks.0
 nothing rest none (Client dialing) asks = none dialing asks.2
+nothing rest none (User adding) asks = apart (codes "client") (codes "user") refl asks.0
 
 inside : {a b : WordsError} → ◌≡◌ {A = Result Command WordsError} (Err a) (Err b) → a ≡ b
 inside e = cc

@@ -2,7 +2,7 @@ use Rattle.std.proofs.Common.{◌≡◌, ◌≢◌, ◌∙◌, List, Some, codes
 use Rattle.clap.specs.Words.{App, Row, Text, first_of, matches_of}
 use Rattle.hm_message.specs.declared.message.Codec.{Codec}
 use Rattle.sr_words.specs.declared.commands.Command.{Command}
-use Rattle.sr_words.specs.declared.commands.Command.TheVariants.{Replay, Soak, Check, Convert, Serve, Client}
+use Rattle.sr_words.specs.declared.commands.Command.TheVariants.{Replay, Soak, Check, Convert, Serve, Client, User}
 use Rattle.hd_facts.specs.Unique.{IsTheOne}
 use Rattle.sr_words.specs.Clap.{Gives, Takes}
 use Rattle.sr_words.specs.Words.{AsksAfter, codec_name, convert_app, texts}
@@ -20,6 +20,7 @@ the_one rest from to takes from_is to_is differ = record { holds = (refl, takes,
     only (Convert a b) asks = ap₂ Convert (same_codec a from (sym asks.2 ∙ from_is)) (same_codec b to (sym asks.3 ∙ to_is))
     only (Serve serving) asks = absurd (apart (codes "convert") (codes "serve") refl asks.0)
     only (Client dialing) asks = absurd (apart (codes "convert") (codes "client") refl asks.0)
+    only (User adding) asks = absurd (apart (codes "convert") (codes "user") refl asks.0)
 
 gives : (own app : App) (words : List Text) (rows : List Row) (id value : Text) → own ≡ app → rows ≡ matches_of own words
     → first_of id rows ≡ Some value → Gives app words id value

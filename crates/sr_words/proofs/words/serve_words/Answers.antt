@@ -2,7 +2,7 @@ use Rattle.std.proofs.Common.{◌≡◌, ◌∙◌, Err, List, Result, ap, codes
 use Rattle.std.proofs.lemmas.Result.{err_from_is_err_and}
 use Rattle.clap.specs.Words.{App, Row, Text, is_simple_and_free, matches_of}
 use Rattle.sr_words.specs.declared.commands.Command.{Command}
-use Rattle.sr_words.specs.declared.commands.Command.TheVariants.{Replay, Soak, Check, Convert, Serve, Client}
+use Rattle.sr_words.specs.declared.commands.Command.TheVariants.{Replay, Soak, Check, Convert, Serve, Client, User}
 use Rattle.sr_words.specs.declared.error.WordsError.{WordsError}
 use Rattle.sr_words.specs.declared.serving.Serving.{Serving}
 use Rattle.hd_facts.specs.Unique.{IsTheOne}
@@ -23,6 +23,7 @@ the_one rest serving takes says = record { holds = (refl, takes, says); only = o
     only (Convert from to) asks = absurd (apart (codes "serve") (codes "convert") refl asks.0)
     only (Serve other) asks = ap Serve (same_serving (matches_of serve_app rest) other serving asks.2 says)
     only (Client dialing) asks = absurd (apart (codes "serve") (codes "client") refl asks.0)
+    only (User adding) asks = absurd (apart (codes "serve") (codes "user") refl asks.0)
 
 -- the rows that clap found for the words say what its rows for them say
 says_too : (own : App) (words : List Text) (rows : List Row) (serving : Serving) → own ≡ serve_app → rows ≡ matches_of own words
@@ -38,6 +39,7 @@ nothing rest none (Check codec) asks = apart (codes "serve") (codes "check") ref
 nothing rest none (Convert from to) asks = apart (codes "serve") (codes "convert") refl asks.0
 nothing rest none (Serve serving) asks = none serving asks.2
 nothing rest none (Client dialing) asks = apart (codes "serve") (codes "client") refl asks.0
+nothing rest none (User adding) asks = apart (codes "serve") (codes "user") refl asks.0
 
 inside : {a b : WordsError} → ◌≡◌ {A = Result Command WordsError} (Err a) (Err b) → a ≡ b
 inside e = cc

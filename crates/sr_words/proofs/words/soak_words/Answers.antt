@@ -1,7 +1,7 @@
 use Rattle.std.proofs.Common.{◌≡◌, ◌≤◌, ◌∙◌, ℕ, List, codes, ap, ap₂, refl, sym, subst, rules}
 use Rattle.clap.specs.Words.{App, Row, Text, matches_of}
 use Rattle.sr_words.specs.declared.commands.Command.{Command}
-use Rattle.sr_words.specs.declared.commands.Command.TheVariants.{Replay, Soak, Check, Convert, Serve, Client}
+use Rattle.sr_words.specs.declared.commands.Command.TheVariants.{Replay, Soak, Check, Convert, Serve, Client, User}
 use Rattle.hd_facts.specs.Unique.{IsTheOne}
 use Rattle.sr_words.specs.Clap.{SaysNumber, Takes}
 use Rattle.sr_words.specs.Words.{AsksAfter, AsksNothingAfter, most_steps, soak_app, texts}
@@ -20,6 +20,7 @@ the_one rest seed steps takes seed_is steps_are few = record { holds = (refl, ta
     only (Convert a b) asks = absurd (apart (codes "soak") (codes "convert") refl asks.0)
     only (Serve serving) asks = absurd (apart (codes "soak") (codes "serve") refl asks.0)
     only (Client dialing) asks = absurd (apart (codes "soak") (codes "client") refl asks.0)
+    only (User adding) asks = absurd (apart (codes "soak") (codes "user") refl asks.0)
 
 -- what the rows say that clap found, its rows for the words say
 said : (own : App) (words : List Text) (rows : List Row) (id : Text) (n : ℕ) → own ≡ soak_app → rows ≡ matches_of own words → SaysNumber id n rows
@@ -39,6 +40,7 @@ nothing rest none (Check codec) asks = apart (codes "soak") (codes "check") refl
 nothing rest none (Convert a b) asks = apart (codes "soak") (codes "convert") refl asks.0
 nothing rest none (Serve serving) asks = apart (codes "soak") (codes "serve") refl asks.0
 nothing rest none (Client dialing) asks = apart (codes "soak") (codes "client") refl asks.0
+nothing rest none (User adding) asks = apart (codes "soak") (codes "user") refl asks.0
 
 pub returns-in_err-seed-clause-no_command : goal.returns-in_err-seed-clause-no_command
 returns-in_err-seed-clause-no_command c = λ is. nothing (texts c.args.words.now) (λ seed steps asks.
