@@ -1,4 +1,4 @@
-//! A keeper whose users and rows are in a database of SQLite, in memory or in a file. No command uses it yet.
+//! A keeper whose users and rows are in a database of SQLite, in memory or in a file.
 //!
 //! ```text
 //! let mut keeper = SqlKeeper::open(connection)?;    // makes the two tables where they are absent

@@ -13,7 +13,7 @@ use Rattle.sr_check.specs.declared.task.Task.{Task}
 use Rattle.sr_check.specs.declared.task.Task.TheVariants as task
 use Rattle.sr_check.specs.Stream.{ReadsNoFurther}
 use Rattle.sr_words.specs.declared.commands.Command.{Command}
-use Rattle.sr_words.specs.declared.commands.Command.TheVariants.{Replay, Soak, Check, Convert, Serve, Client}
+use Rattle.sr_words.specs.declared.commands.Command.TheVariants.{Replay, Soak, Check, Convert, Serve, Client, User}
 use Rattle.sr_app.specs.declared.run.Status.{Status}
 use Rattle.sr_app.specs.declared.run.Status.TheVariants.{Done, Usage, Refused, ReadFault, WriteFault, DoorFault, KeeperFault, NoMemory, ConnectionRefused, LotsFault, TurnsDone}
 use Rattle.sr_script.specs.Script.{IsRefusedAt}
@@ -301,6 +301,7 @@ reads_nothing waits (Check codec) input = task_reads_nothing waits (task.Check c
 reads_nothing waits (Convert from to) input = task_reads_nothing waits (task.Convert from to) input
 reads_nothing waits (Serve asked) input = refl
 reads_nothing waits (Client asked) input = ([], consumed_nothing input, omega arith)
+reads_nothing waits (User asked) input = refl
 
 -- ---- how a soak ends, whatever the input is
 

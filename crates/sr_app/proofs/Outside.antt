@@ -2,12 +2,13 @@
 use Rattle.std.proofs.Common.{◌≡◌, ◌∙◌, ◌⊎◌, ℕ, inl, inr, List, Option, refl, sym, subst}
 use Rattle.hd_facts.specs.Writes.{Writes}
 use Rattle.sr_words.specs.declared.commands.Command.{Command}
-use Rattle.sr_words.specs.declared.commands.Command.TheVariants.{Replay, Soak, Check, Convert, Serve, Client}
+use Rattle.sr_words.specs.declared.commands.Command.TheVariants.{Replay, Soak, Check, Convert, Serve, Client, User}
+use Rattle.sr_words.specs.declared.adding.Adding.{Adding}
 use Rattle.sr_words.specs.declared.dialing.Dialing.{Dialing}
 use Rattle.sr_words.specs.declared.serving.Serving.{Serving}
 use Rattle.sr_app.specs.declared.run.Status.{Status}
 use Rattle.sr_app.specs.declared.run.Status.TheVariants.{Done, Usage, Refused, ReadFault, WriteFault, DoorFault, KeeperFault, NoMemory, ConnectionRefused, LotsFault, TurnsDone}
-use Rattle.sr_app.specs.Run.{Ends, InputOutput, IsEndedOutside, Meaning, code_of, meaning_of}
+use Rattle.sr_app.specs.Run.{Ends, InputOutput, IsAddingUntil, IsEndedOutside, IsServingUntil, Meaning, code_of, meaning_of}
 use Rattle.sr_app.proofs.Answering.{same_status}
 use Rattle.sr_app.proofs.Dialed.{not_of_a_run}
 
@@ -25,13 +26,15 @@ not_by_words own status (inr cut) outside same = subst IsEndedOutside (sym (same
 pub not_in_memory : (status : Status) → IsEndedOutside status → code_of NoMemory ≡ code_of status → ⊥
 not_in_memory status outside same = subst IsEndedOutside (sym (same_status NoMemory status same)) outside
 
-pub server_of : (command : Command) (input before now : Option (List ℕ)) → Writes ((meaning_of command).ended KeeperFault) input before now → (asked : Serving) × (command ≡ Serve asked)
-server_of Replay input before now w = absurd w.3
-server_of (Soak seed steps) input before now w = absurd w.3
-server_of (Check codec) input before now w = absurd w.3
-server_of (Convert from to) input before now w = absurd w.3
-server_of (Serve asked) input before now w = (asked, refl)
-server_of (Client asked) input before now w = absurd (not_of_a_run KeeperFault tt w.3.ran w.3.status_is)
+pub server_or_user_of : (command : Command) (input before now : Option (List ℕ)) → Writes ((meaning_of command).ended KeeperFault) input before now
+    → ((asked : Serving) × (command ≡ Serve asked)) ⊎ ((asked : Adding) × (command ≡ User asked))
+server_or_user_of Replay input before now w = absurd w.3
+server_or_user_of (Soak seed steps) input before now w = absurd w.3
+server_or_user_of (Check codec) input before now w = absurd w.3
+server_or_user_of (Convert from to) input before now w = absurd w.3
+server_or_user_of (Serve asked) input before now w = inl (asked, refl)
+server_or_user_of (Client asked) input before now w = absurd (not_of_a_run KeeperFault tt w.3.ran w.3.status_is)
+server_or_user_of (User asked) input before now w = inr (asked, refl)
 
 pub door_or_dialer_of : (command : Command) (input before now : Option (List ℕ)) → Writes ((meaning_of command).ended DoorFault) input before now
     → ((asked : Serving) × (command ≡ Serve asked)) ⊎ ((asked : Dialing) × (command ≡ Client asked))
@@ -41,6 +44,7 @@ door_or_dialer_of (Check codec) input before now w = absurd w.3
 door_or_dialer_of (Convert from to) input before now w = absurd w.3
 door_or_dialer_of (Serve asked) input before now w = inl (asked, refl)
 door_or_dialer_of (Client asked) input before now w = inr (asked, refl)
+door_or_dialer_of (User asked) input before now w = absurd w.3
 
 -- only a client has the last three statuses
 abbrev IsOfDialing : Status → Type 0
@@ -49,24 +53,31 @@ IsOfDialing LotsFault = Unit {0}
 IsOfDialing TurnsDone = Unit {0}
 IsOfDialing status = ⊥
 
+not_without_dialing : (status : Status) → IsOfDialing status → (text line : List ℕ) → IsServingUntil status text line ⊎ IsAddingUntil status text line → ⊥
+not_without_dialing ConnectionRefused is text line (inl serves) = serves
+not_without_dialing ConnectionRefused is text line (inr adds) = adds
+not_without_dialing LotsFault is text line (inl serves) = serves
+not_without_dialing LotsFault is text line (inr adds) = adds
+not_without_dialing TurnsDone is text line (inl serves) = serves
+not_without_dialing TurnsDone is text line (inr adds) = adds
+not_without_dialing Done is text line either = is
+not_without_dialing Usage is text line either = is
+not_without_dialing Refused is text line either = is
+not_without_dialing ReadFault is text line either = is
+not_without_dialing WriteFault is text line either = is
+not_without_dialing DoorFault is text line either = is
+not_without_dialing KeeperFault is text line either = is
+not_without_dialing NoMemory is text line either = is
+
 dialer_of : (status : Status) → IsOfDialing status → (command : Command) (input before now : Option (List ℕ)) → Writes ((meaning_of command).ended status) input before now
     → (asked : Dialing) × (command ≡ Client asked)
 dialer_of status is Replay input before now w = absurd w.3
 dialer_of status is (Soak seed steps) input before now w = absurd w.3
 dialer_of status is (Check codec) input before now w = absurd w.3
 dialer_of status is (Convert from to) input before now w = absurd w.3
+dialer_of status is (Serve asked) input before now w = absurd (not_without_dialing status is w.0 w.1 (inl w.3))
 dialer_of status is (Client asked) input before now w = (asked, refl)
-dialer_of ConnectionRefused is (Serve asked) input before now w = absurd w.3
-dialer_of LotsFault is (Serve asked) input before now w = absurd w.3
-dialer_of TurnsDone is (Serve asked) input before now w = absurd w.3
-dialer_of Done is (Serve asked) input before now w = absurd is
-dialer_of Usage is (Serve asked) input before now w = absurd is
-dialer_of Refused is (Serve asked) input before now w = absurd is
-dialer_of ReadFault is (Serve asked) input before now w = absurd is
-dialer_of WriteFault is (Serve asked) input before now w = absurd is
-dialer_of DoorFault is (Serve asked) input before now w = absurd is
-dialer_of KeeperFault is (Serve asked) input before now w = absurd is
-dialer_of NoMemory is (Serve asked) input before now w = absurd is
+dialer_of status is (User asked) input before now w = absurd (not_without_dialing status is w.0 w.1 (inr w.3))
 
 pub client_of : (command : Command) (own : Status) (before now : InputOutput) → Ends (meaning_of command) own before now → (code_of own ≡ 8) ⊎ (code_of own ≡ 9) ⊎ (code_of own ≡ 10)
     → (asked : Dialing) × (command ≡ Client asked)

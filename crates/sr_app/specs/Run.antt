@@ -1,14 +1,20 @@
 -- What the program does with its words and its input, where the source and the sink tell their bytes.
-use Rattle.std.specs.Prelude.{◌≡◌, ◌≢◌, ◌≤◌, ◌+◌, ℕ, List, [], ◌∷◌, ◌++◌, length, take, codes, String, Option, ◌⊎◌, Result, Ok, Err}
+use Rattle.std.specs.Prelude.{◌≡◌, ◌≢◌, ◌≤◌, ◌+◌, ℕ, Bool, true, false, List, [], ◌∷◌, ◌++◌, length, take, codes, String, Option, option_map, is_none, IfSome, ◌⊎◌, Result, Ok, Err, IfOk}
 use Rattle.std.specs.Io.KnownBytes.{Appends, Consumes, IsAtEnd}
 use Rattle.std.specs.declared.alloc.Global.{Global}
 use Rattle.hd_facts.specs.Counts.{Rose}
 use Rattle.hd_facts.specs.Unique.{IsTheOne}
 use Rattle.hd_facts.specs.Writes.{IsText, Writes, WritesPart, WritesOfRead}
+use Rattle.hd_rooms.specs.declared.vocabulary.Asked.{Asked}
+use Rattle.hd_rooms.specs.declared.vocabulary.Asked.TheVariants.{AddUser}
+use Rattle.hd_rooms.specs.Kept.{Content, name_of, with_user}
 use Rattle.hd_client.specs.declared.order.Order.{Order}
 use Rattle.hd_client.specs.Setups.{Setup}
 use Rattle.sr_app.specs.declared.run.Status.{Status}
 use Rattle.sr_app.specs.declared.run.Status.TheVariants.{Done, Usage, Refused, ReadFault, WriteFault, DoorFault, KeeperFault, NoMemory, ConnectionRefused, LotsFault, TurnsDone}
+use Rattle.hk_keeper.specs.Calls.{HasFaultCause, IsNoted}
+use Rattle.hk_keeper.specs.declared.keeper.KeepError.{KeepError}
+use Rattle.hk_keeper.specs.declared.keeper.KeepError.TheVariants as keep
 use Rattle.hw_door.specs.DoorCalls.{DoorCall, flushed}
 use Rattle.hub_server.specs.Resend.{limits_with}
 use Rattle.sr_script.specs.Script.{Program, Parses, IsRefusedAt, refusal_line, most_script}
@@ -21,7 +27,8 @@ use Rattle.sr_check.specs.declared.task.Stop.{Stop}
 use Rattle.sr_check.specs.declared.task.Stop.TheVariants as stop
 use Rattle.sr_check.specs.Stream.{IsDone, IsStopped, IsBegun, IsAllSoFar, IsPart, ReadsNoFurther, most_piece}
 use Rattle.sr_words.specs.declared.commands.Command.{Command}
-use Rattle.sr_words.specs.declared.commands.Command.TheVariants.{Replay, Soak, Check, Convert, Serve, Client}
+use Rattle.sr_words.specs.declared.commands.Command.TheVariants.{Replay, Soak, Check, Convert, Serve, Client, User}
+use Rattle.sr_words.specs.declared.adding.Adding.{Adding}
 use Rattle.sr_words.specs.declared.serving.Serving.{Serving}
 use Rattle.sr_words.specs.declared.dialing.Dialing.{Dialing}
 use Rattle.sr_words.specs.Words.{Asks, IsNoCommand}
@@ -37,7 +44,7 @@ use Rattle.sr_client.specs.Running.{Faults, HasRun, IsCausedBy, IsSetup, WentSo,
 use Rattle.sr_script.specs.declared.script.ScriptError.TheVariants.{Line}
 
 abbrev pub usage_line : List ℕ
-usage_line = codes "usage: sr replay, soak, serve, client, check or convert\n"
+usage_line = codes "usage: sr replay, soak, serve, client, check, convert or user\n"
 
 -- the exit status, as the shell has it
 abbrev pub code_of : Status → ℕ
@@ -235,6 +242,33 @@ dialing asked = record {
   ended = IsPrinted asked;
 }
 
+-- the line that tells whether a user was added
+abbrev pub adding_line : Bool → List ℕ
+adding_line true = codes "added\n"
+adding_line false = codes "known\n"
+
+-- either of these lines, whatever the input is
+abbrev pub IsAdding : Answers
+IsAdding text line = (is_new : Bool) × (line ≡ adding_line is_new)
+
+-- its line doesn't stand where the keeper failed
+abbrev pub IsAddingUntil : Status → Answers
+IsAddingUntil KeeperFault = IsNothing
+IsAddingUntil status = Never
+
+-- Adding a user reads nothing, and writes once it was answered.
+abbrev pub adding : Meaning
+adding = record {
+  done = IsAdding;
+  refused = Never;
+  part = IsAdding;
+  begun = IsNothing;
+  read = Never;
+  reads = λ before now. now ≡ before;
+  leaves = λ left. Unit {0};
+  ended = IsAddingUntil;
+}
+
 -- what each command means
 abbrev pub meaning_of : Command → Meaning
 meaning_of Replay = replaying
@@ -243,17 +277,25 @@ meaning_of (Check codec) = doing (task.Check codec)
 meaning_of (Convert from to) = doing (task.Convert from to)
 meaning_of (Serve asked) = serving
 meaning_of (Client asked) = dialing asked
+meaning_of (User asked) = adding
 
 -- the command reads no input
 abbrev pub ReadsNothing : Command → Type 0
 ReadsNothing (Soak seed steps) = Unit {0}
 ReadsNothing (Serve asked) = Unit {0}
+ReadsNothing (User asked) = Unit {0}
 ReadsNothing command = ⊥
 
--- the command leaves door and keeper alone
+-- the command leaves the door alone
 abbrev pub ServesNothing : Command → Type 0
 ServesNothing (Serve asked) = ⊥
 ServesNothing command = Unit {0}
+
+-- the command leaves the keeper alone
+abbrev pub KeepsNothing : Command → Type 0
+KeepsNothing (Serve asked) = ⊥
+KeepsNothing (User asked) = ⊥
+KeepsNothing command = Unit {0}
 
 -- the command leaves the dialer alone
 abbrev pub DialsNothing : Command → Type 0
@@ -270,6 +312,7 @@ DrawsNothing command status = Unit {0}
 abbrev pub WritesOnce : Command → Type 0
 WritesOnce Replay = Unit {0}
 WritesOnce (Soak seed steps) = Unit {0}
+WritesOnce (User asked) = Unit {0}
 WritesOnce command = ⊥
 
 -- ---- what a command did
@@ -380,3 +423,46 @@ abbrev pub EndsDialing : Dialing → Status → (List DoorCall → Type 0) → T
 EndsDialing asked status Goes IsUndialed input before now =
     ((ran : Result Unit ClientError) × (status ≡ status_of_run ran) × HasDialed asked Goes input before now ran)
     ⊎ (EndsUndialed status input before now × IsUndialed)
+
+-- the status that goes with a keeper's failure
+abbrev pub status_of_keeper : KeepError → Status
+status_of_keeper keep.Failed = KeeperFault
+status_of_keeper keep.NoMemory = NoMemory
+
+-- what a keeper tells of what it keeps and of what it was asked, what the output tells of itself, and how often each has failed
+pub record AddEnvironment : Type 0 where
+  pub kept : Option Content
+  pub answers : Option (List Asked)
+  pub keeper_faults : ℕ
+  pub holds : Option (List ℕ)
+  pub sink_faults : ℕ
+
+abbrev pub add_environment : Option Content → Option (List Asked) → ℕ → Option (List ℕ) → ℕ → AddEnvironment
+add_environment kept answers keeper_faults holds sink_faults =
+    record { kept = kept; answers = answers; keeper_faults = keeper_faults; holds = holds; sink_faults = sink_faults }
+
+-- what is kept after this answer: one user more, who is the last, if it was new
+abbrev pub kept_with : Adding → Result Bool KeepError → Option Content → Option Content
+kept_with asked (Ok true) kept = option_map (with_user asked.token asked.name) kept
+kept_with asked answer kept = kept
+
+-- The keeper was asked to add this user, once, and nothing else, and answered so: the user is new exactly where nobody had the token
+pub record IsAskedToAdd (asked : Adding) (answer : Result Bool KeepError) (before now : AddEnvironment) : Type 0 where
+  pub noted : IsNoted before.answers now.answers (AddUser asked.token asked.name) answer
+  pub is_new : IfOk answer (λ is_new. IfSome before.kept (λ kept. is_new ≡ is_none (name_of asked.token kept.users)))
+  pub kept : now.kept ≡ kept_with asked answer before.kept
+  pub cause : HasFaultCause before.keeper_faults now.keeper_faults answer
+
+-- nothing was written, and the output didn't fail
+abbrev pub IsUnwritten : AddEnvironment → AddEnvironment → Type 0
+IsUnwritten before now = (now.holds ≡ before.holds) × (now.sink_faults ≡ before.sink_faults)
+
+-- What adding a user did that ended with this status: the line says what the keeper answered. Where the output failed the keeper has the user all the same.
+abbrev pub EndsAdding : Adding → Status → AddEnvironment → AddEnvironment → Type 0
+EndsAdding asked Done before now = (is_new : Bool) × IsAskedToAdd asked (Ok is_new) before now
+    × Appends before.holds now.holds (adding_line is_new) × (now.sink_faults ≡ before.sink_faults)
+EndsAdding asked WriteFault before now = (is_new : Bool) × IsAskedToAdd asked (Ok is_new) before now
+    × ((n : ℕ) × Appends before.holds now.holds (take n (adding_line is_new))) × Rose before.sink_faults now.sink_faults
+EndsAdding asked KeeperFault before now = IsAskedToAdd asked (Err keep.Failed) before now × IsUnwritten before now
+EndsAdding asked NoMemory before now = IsAskedToAdd asked (Err keep.NoMemory) before now × IsUnwritten before now
+EndsAdding asked status before now = ⊥

@@ -6,17 +6,18 @@ ghost use Rattle.hd_facts.specs.Counts.{Rose};
 ghost use Rattle.hd_facts.specs.Writes.{Writes, WritesOfRead};
 ghost use Rattle.sr_check.specs.Stream.{IsTouchedByBytesAlone, most_piece};
 ghost use Rattle.sr_words.specs.Words.{Asks, IsNoCommand};
-ghost use Rattle.sr_words.specs.declared.commands.Command.TheVariants.{Client, Serve};
+ghost use Rattle.sr_words.specs.declared.adding.Adding.{Adding};
+ghost use Rattle.sr_words.specs.declared.commands.Command.TheVariants.{Client, Serve, User};
 ghost use Rattle.sr_words.specs.declared.dialing.Dialing.{Dialing};
 ghost use Rattle.sr_words.specs.declared.serving.Serving.{Serving};
 ghost use Rattle.hub_server.specs.Steps.{outside};
 ghost use Rattle.sr_serve.specs.Serving.{environment, serving_line};
 ghost use Rattle.sr_client.specs.Running.{faults};
-ghost use Rattle.sr_app.specs.Run.{Answered, AsksFor, DialsNothing, DrawsNothing, Ends, EndsDialing, EndsServing, IsEndedOutside, ReadsBounded, ReadsNothing, ServesNothing, TellsFaults, WritesOnce, WritesPartFor, code_of, dial_environment, dialing, doing, meaning_of, input_output, replaying, soaking, usage_line};
+ghost use Rattle.sr_app.specs.Run.{Answered, AsksFor, DialsNothing, DrawsNothing, Ends, EndsAdding, EndsDialing, EndsServing, IsEndedOutside, KeepsNothing, ReadsBounded, ReadsNothing, ServesNothing, TellsFaults, WritesOnce, WritesPartFor, add_environment, adding_line, code_of, dial_environment, dialing, doing, meaning_of, input_output, replaying, soaking, usage_line};
 ghost use Rattle.sr_script.specs.Script.{refusal_line};
 
 use hf_split::empty_waits;
-use hk_keeper::Keeper;
+use hk_keeper::{KeepError, Keeper};
 use hw_door::{Dialer, Door, Lots};
 use hw_io::{Failed, Sink, Source};
 use sr_check::{Stop, Task};
@@ -25,10 +26,16 @@ use sr_replay::{ReplayError, replay, reports_have_lines};
 use sr_script::{MOST_SCRIPT, ScriptError, long_is_refused_by_its_front, parse};
 use sr_serve::{ServeError, serve_hub};
 use sr_soak::soak;
-use sr_words::{Command, Dialing, Serving, WordsError};
+use sr_words::{Adding, Command, Dialing, Serving, WordsError};
 use std::alloc::{AllocError, Global};
 
-const USAGE: &[u8] = b"usage: sr replay, soak, serve, client, check or convert\n";
+const USAGE: &[u8] = b"usage: sr replay, soak, serve, client, check, convert or user\n";
+
+/// What `user` writes of a user whom the keeper didn't have.
+const ADDED: &[u8] = b"added\n";
+
+/// What `user` writes if the keeper has a user with this token already.
+const KNOWN: &[u8] = b"known\n";
 
 /// How many bytes of a script are read at a time.
 const PIECE: usize = 4096;
@@ -346,6 +353,41 @@ fn run_dialing<S: Source, K: Sink, C: Dialer, L: Lots>(
     }
 }
 
+impl From<KeepError> for Status {
+    ghost use Rattle.std.specs.Prelude.{◌≡◌};
+    ghost use Rattle.sr_app.specs.Run.{status_of_keeper};
+
+    ghost from_gives = { λ error status. status ≡ status_of_keeper error };
+
+    fn from(error: KeepError) -> Status {
+        match error {
+            KeepError::Failed => Status::KeeperFault,
+            KeepError::NoMemory => Status::NoMemory,
+        }
+    }
+}
+
+/// What `user` writes of a user who is new to the keeper, or isn't.
+fn line_of(is_new: bool) -> &'static [u8]
+    ensures { result.now ≡ adding_line is_new }
+{
+    if is_new { ADDED } else { KNOWN }
+}
+
+/// Has the keeper add a user, and writes whether it did.
+fn run_user<K: Sink, R: Keeper>(alloc: Global, asked: Adding, out: &mut K, keeper: &mut R) -> Status
+    ensures adds { EndsAdding asked result
+        (add_environment (R.holds keeper.old) (R.answers keeper.old) (R.faults keeper.old) (K.holds out.old) (K.faults out.old))
+        (add_environment (R.holds keeper.new) (R.answers keeper.new) (R.faults keeper.new) (K.holds out.new) (K.faults out.new)) }
+    ensures touched { result ≢ Status.WriteFault → IsTouchedByBytesAlone K.holds out.old out.new }
+    ensures untouched { (result ≡ Status.KeeperFault) ⊎ (result ≡ Status.NoMemory) → out.new ≡ out.old }
+{
+    match keeper.add_user(alloc, &asked.token, &asked.name) {
+        Ok(is_new) => write(out, line_of(is_new), Status::Done),
+        Err(error) => Status::from(error),
+    }
+}
+
 /// Carries out a command.
 fn carry_out<S: Source, K: Sink, D: Door, C: Dialer, R: Keeper, L: Lots>(
     alloc: Global,
@@ -374,9 +416,12 @@ fn carry_out<S: Source, K: Sink, D: Door, C: Dialer, R: Keeper, L: Lots>(
     ensures dials { (asked : Dialing) → command ≡ Client asked → EndsDialing asked result (λ calls. C.Goes dialer.old calls dialer.new) ((dialer.new ≡ dialer.old) × (lots.new ≡ lots.old)) (S.left input.old)
         (dial_environment (L.drawn lots.old) (K.holds out.old) (faults (C.faults dialer.old) (L.faults lots.old) (K.faults out.old)))
         (dial_environment (L.drawn lots.new) (K.holds out.new) (faults (C.faults dialer.new) (L.faults lots.new) (K.faults out.new))) }
+    ensures adds { (asked : Adding) → command ≡ User asked → EndsAdding asked result
+        (add_environment (R.holds keeper.old) (R.answers keeper.old) (R.faults keeper.old) (K.holds out.old) (K.faults out.old))
+        (add_environment (R.holds keeper.new) (R.answers keeper.new) (R.faults keeper.new) (K.holds out.new) (K.faults out.new)) }
     ensures unwritten { result ≡ Status.KeeperFault → out.new ≡ out.old }
     ensures unheard { ServesNothing command ⊎ (result ≡ Status.KeeperFault) ⊎ (result ≡ Status.WriteFault) → door.new ≡ door.old }
-    ensures unasked { ServesNothing command → keeper.new ≡ keeper.old }
+    ensures unasked { KeepsNothing command → keeper.new ≡ keeper.old }
     ensures undialed { DialsNothing command → dialer.new ≡ dialer.old }
     ensures undrawn { DrawsNothing command (code_of result) → lots.new ≡ lots.old }
     ensures door_unfailed { result ≢ Status.DoorFault → D.faults door.new ≡ D.faults door.old }
@@ -390,22 +435,25 @@ fn carry_out<S: Source, K: Sink, D: Door, C: Dialer, R: Keeper, L: Lots>(
         Command::Convert { from, to } => run_task(alloc, Task::Convert { from, to }, input, out),
         Command::Serve(serving) => run_serve(alloc, serving, out, door, keeper, lots),
         Command::Client(asked) => run_dialing(alloc, asked, input, out, dialer, lots),
+        Command::User(asked) => run_user(alloc, asked, out, keeper),
     }
 }
 
 /// Does what the words say, over this input and this output, and answers the exit status. `serve` hears through the door, asks the keeper
-/// and draws the lots; `client` dials through the dialer and draws the lots; the other commands leave them alone.
+/// and draws the lots; `client` dials through the dialer and draws the lots; `user` asks the keeper; the other commands leave them alone.
 ///
 /// | status | if |
 /// |---|---|
 /// | 0 | the input, if the command asks for one, is what it asks for; its whole answer was written. `serve`: all of its turns were done |
 /// | | `client`: its script is at its end, no call is live, and its end is closed |
+/// | | `user`: the keeper has a user with this token, who was added or known before |
 /// | 1 | the words are no command; the usage line was written |
 /// | 2 | the input is refused; what is written of the frames before, and the refusal, was written |
 /// | 3 | the input failed; nothing was written but what is written of the frames that were read |
-/// | 4 | the output failed; it took a first part of what was to be written |
+/// | 4 | the output failed; it took a first part of what was to be written. `user`: the keeper has the user all the same |
 /// | 5 | `serve`: the door failed; `client`: the dialer failed; what it was given before stands |
 /// | 6 | `serve`: the keeper failed when it was asked how many rows there are; nothing was written or heard |
+/// | | `user`: the keeper failed when it was asked to add the user; nothing was written, and users and rows are as before |
 /// | 7 | out of memory; nothing was written but what is written of some frames that were read, or the line with which `serve` begins |
 /// | | `client`: nothing was written but what it printed before |
 /// | 8 | `client`: the server refused it or closed the connection, what came can't be read, or the connection was lost for good |
@@ -453,12 +501,10 @@ pub fn run<S: Source, K: Sink, D: Door, C: Dialer, R: Keeper, L: Lots>(
         (outside (R.holds keeper.old) (R.answers keeper.old) (R.faults keeper.old) (L.drawn lots.old) (L.faults lots.old)))
         (environment (K.holds out.new) (K.faults out.new) (D.moment door.new) (D.faults door.new)
         (outside (R.holds keeper.new) (R.answers keeper.new) (R.faults keeper.new) (L.drawn lots.new) (L.faults lots.new))) }
-    ensures serve_fault { result ≡ 6 → (serving : Serving) × Asks words.now (Serve serving) }
     ensures door_unfailed { result ≢ 5 → D.faults door.new ≡ D.faults door.old }
     ensures unwritten { result ≡ 6 → out.new ≡ out.old }
     ensures unheard { (result ≡ 4) ⊎ (result ≡ 6) → door.new ≡ door.old }
-    ensures unserved { IsNoCommand words.now ⊎ ((command : Command) × (Asks words.now command × ServesNothing command))
-        → (door.new ≡ door.old) × (keeper.new ≡ keeper.old) }
+    ensures unserved { IsNoCommand words.now ⊎ ((command : Command) × (Asks words.now command × ServesNothing command)) → door.new ≡ door.old }
 
     // What `client` did, by its status: so 5 comes only if the dialer's count rose, 9 only if that of the lots did, and 8 and 10 if it was so.
     ensures dials { (asked : Dialing) → Asks words.now (Client asked) → (status : Status) × (result ≡ code_of status)
@@ -470,9 +516,18 @@ pub fn run<S: Source, K: Sink, D: Door, C: Dialer, R: Keeper, L: Lots>(
     ensures lots_unfailed { (asked : Dialing) → Asks words.now (Client asked) → result ≢ 9 → L.faults lots.new ≡ L.faults lots.old }
     ensures undialed { IsNoCommand words.now ⊎ ((command : Command) × (Asks words.now command × DialsNothing command)) → dialer.new ≡ dialer.old }
 
-    // What both may do.
+    // What `user` did, by its status: it asked the keeper once, and the line says what that answered. 6 comes only if the keeper's count rose.
+    ensures adds { (asked : Adding) → Asks words.now (User asked) → (status : Status) × (result ≡ code_of status)
+        × EndsAdding asked status
+        (add_environment (R.holds keeper.old) (R.answers keeper.old) (R.faults keeper.old) (K.holds out.old) (K.faults out.old))
+        (add_environment (R.holds keeper.new) (R.answers keeper.new) (R.faults keeper.new) (K.holds out.new) (K.faults out.new)) }
+    ensures unasked { IsNoCommand words.now ⊎ ((command : Command) × (Asks words.now command × KeepsNothing command)) → keeper.new ≡ keeper.old }
+
+    // What two of them may do.
     ensures outside_fault { result ≡ 5
         → ((serving : Serving) × Asks words.now (Serve serving)) ⊎ ((asked : Dialing) × Asks words.now (Client asked)) }
+    ensures keeper_fault { result ≡ 6
+        → ((serving : Serving) × Asks words.now (Serve serving)) ⊎ ((asked : Adding) × Asks words.now (User asked)) }
     ensures undrawn { IsNoCommand words.now ⊎ ((command : Command) × (Asks words.now command × DrawsNothing command result)) → lots.new ≡ lots.old }
 
     // A count of faults rises only in a call that the status tells of.

@@ -1,6 +1,7 @@
 use Rattle.std.proofs.Common.{refl, subst, inl, inr, ⊎_elim}
 use Rattle.sr_app.specs.declared.run.Status.TheVariants.{WriteFault, KeeperFault}
 use Rattle.sr_app.specs.Run.{DialsNothing, DrawsNothing, ServesNothing, code_of}
+use Rattle.sr_app.proofs.Added.{adding_as, adding_ends, adding_sink_kept, not_by_reading}
 use Rattle.sr_app.proofs.Answering.{same_status}
 use Rattle.sr_app.proofs.Dialed.{asks_no_keeper, dialing_as, dialing_dialer_kept, dialing_lots_kept, dialing_output_kept}
 use Rattle.sr_app.proofs.Served.{serving_as, serving_ends, serving_sink_kept, serving_door_kept, serving_touches}
@@ -71,3 +72,18 @@ returns-in-Client-clause-dialer_unfailed g c = λ differ. dialing_dialer_kept c.
 
 pub returns-in-Client-clause-lots_unfailed : goal.returns-in-Client-clause-lots_unfailed
 returns-in-Client-clause-lots_unfailed g c = λ asked is differ. dialing_lots_kept c.in-Client.asked _ _ _ _ _ _ c.run_dialing.ensures.dials differ
+
+pub returns-in-User-clause-ends : goal.returns-in-User-clause-ends
+returns-in-User-clause-ends g c = rw c.in-User.is
+    (adding_ends c.in-User.asked _ _ _ (g.S.Source.left c.args.input.now) (g.S.Source.faults c.args.input.now) c.run_user.ensures.adds)
+
+pub returns-in-User-clause-faults : goal.returns-in-User-clause-faults
+returns-in-User-clause-faults g c =
+    record { source = λ differ. refl; sink = λ differ. adding_sink_kept c.in-User.asked _ _ _ c.run_user.ensures.adds differ }
+
+pub returns-in-User-clause-adds : goal.returns-in-User-clause-adds
+returns-in-User-clause-adds g c = λ asked is. adding_as _ c.in-User.asked asked _ _ _ c.in-User.is c.run_user.ensures.adds is
+
+pub returns-in-User-clause-untouched : goal.returns-in-User-clause-untouched
+returns-in-User-clause-untouched g c = λ once status.
+    ⊎_elim (λ read. absurd (not_by_reading c.in-User.asked _ _ _ c.run_user.ensures.adds read)) (λ memory. c.run_user.ensures.untouched (inr memory)) status

@@ -1,11 +1,11 @@
 use Rattle.std.proofs.Common.{◌∙◌, sym, ap, inl, inr, ⊎_elim, subst, refl, Err}
 use Rattle.sr_words.specs.Words.{Asks, IsNoCommand}
-use Rattle.sr_words.specs.declared.commands.Command.TheVariants.{Client, Serve}
+use Rattle.sr_words.specs.declared.commands.Command.TheVariants.{Client, Serve, User}
 use Rattle.sr_serve.specs.declared.serving.ServeError.TheVariants as end
 use Rattle.sr_app.specs.declared.run.Status.TheVariants.{Done, Usage, ReadFault, WriteFault, DoorFault, KeeperFault, NoMemory}
-use Rattle.sr_app.specs.Run.{DialsNothing, DrawsNothing, ReadsNothing, ServesNothing, WritesOnce, code_of}
+use Rattle.sr_app.specs.Run.{DialsNothing, DrawsNothing, KeepsNothing, ReadsNothing, ServesNothing, WritesOnce, code_of}
 use Rattle.sr_app.proofs.Answering.{same_status, is_code, reads_nothing}
-use Rattle.sr_app.proofs.Outside.{client_of, door_or_dialer_of, ended_with, not_by_words, not_in_memory, server_of}
+use Rattle.sr_app.proofs.Outside.{client_of, door_or_dialer_of, ended_with, not_by_words, not_in_memory, server_or_user_of}
 use Rattle.sr_app.proofs.Told.{appended_nothing}
 use Rattle.sr_app.proofs.run.run.Goals as goal
 
@@ -63,11 +63,11 @@ pub returns-in-Ok-clause-ended : goal.returns-in-Ok-clause-ended
 returns-in-Ok-clause-ended g c = λ status outside is.
     (c.in-Ok.command, c.in-Ok.ensures.ok, ended_with _ c.carry_out.result status _ _ c.carry_out.ensures.ends (same_status c.carry_out.result status (sym c.code.ensures ∙ is)) outside)
 
-pub returns-in-Ok-clause-serve_fault : goal.returns-in-Ok-clause-serve_fault
-returns-in-Ok-clause-serve_fault g c = λ is.
+pub returns-in-Ok-clause-keeper_fault : goal.returns-in-Ok-clause-keeper_fault
+returns-in-Ok-clause-keeper_fault g c = λ is.
     let wrote = ended_with _ c.carry_out.result KeeperFault _ _ c.carry_out.ensures.ends (same_status c.carry_out.result KeeperFault (sym c.code.ensures ∙ is)) tt in
-    let server = server_of c.in-Ok.command _ _ _ wrote.1 in
-    (server.0, subst (Asks c.args.words.now) server.1 c.in-Ok.ensures.ok.holds)
+    ⊎_elim (λ server. inl (server.0, subst (Asks c.args.words.now) server.1 c.in-Ok.ensures.ok.holds))
+    (λ user. inr (user.0, subst (Asks c.args.words.now) user.1 c.in-Ok.ensures.ok.holds)) (server_or_user_of c.in-Ok.command _ _ _ wrote.1)
 
 pub returns-in-Ok-clause-outside_fault : goal.returns-in-Ok-clause-outside_fault
 returns-in-Ok-clause-outside_fault g c = λ is.
@@ -116,9 +116,24 @@ returns-in-Ok-clause-unheard g c = λ is. c.carry_out.ensures.unheard
 
 pub returns-in-Ok-clause-unserved : goal.returns-in-Ok-clause-unserved
 returns-in-Ok-clause-unserved g c = λ either.
-    let serves_nothing : ServesNothing c.in-Ok.command = ⊎_elim (λ none. absurd (none c.in-Ok.command c.in-Ok.ensures.ok.holds))
-    (λ other. subst ServesNothing (c.in-Ok.ensures.ok.only other.0 other.1.0) other.1.1) either in
-    (c.carry_out.ensures.unheard (inl serves_nothing), c.carry_out.ensures.unasked serves_nothing)
+    ⊎_elim (λ none. absurd (none c.in-Ok.command c.in-Ok.ensures.ok.holds))
+    (λ other. c.carry_out.ensures.unheard (inl (subst ServesNothing (c.in-Ok.ensures.ok.only other.0 other.1.0) other.1.1))) either
+
+pub returns-in-Ok-clause-unasked : goal.returns-in-Ok-clause-unasked
+returns-in-Ok-clause-unasked g c = λ either.
+    ⊎_elim (λ none. absurd (none c.in-Ok.command c.in-Ok.ensures.ok.holds))
+    (λ other. c.carry_out.ensures.unasked (subst KeepsNothing (c.in-Ok.ensures.ok.only other.0 other.1.0) other.1.1)) either
+
+pub returns-in-Ok-clause-adds : goal.returns-in-Ok-clause-adds
+returns-in-Ok-clause-adds g c = λ asked asks.
+    (c.carry_out.result, c.code.ensures, c.carry_out.ensures.adds asked (sym (c.in-Ok.ensures.ok.only (User asked) asks)))
+
+pub returns-in-Err-NoCommand-clause-adds : goal.returns-in-Err-NoCommand-clause-adds
+returns-in-Err-NoCommand-clause-adds g c = λ asked asks. absurd (c.parse.ensures.no_command (cc) (User asked) asks)
+
+pub returns-in-Err-NoMemory-clause-adds : goal.returns-in-Err-NoMemory-clause-adds
+returns-in-Err-NoMemory-clause-adds g c = λ asked asks.
+    (NoMemory, c.code-in-Err-NoMemory.ensures, (record { noted = refl; is_new = tt; kept = refl; cause = refl }, (refl, refl)))
 
 pub returns-in-Err-NoCommand-clause-serves : goal.returns-in-Err-NoCommand-clause-serves
 returns-in-Err-NoCommand-clause-serves g c = λ asked asks. absurd (c.parse.ensures.no_command (cc) (Serve asked) asks)
