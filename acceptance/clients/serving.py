@@ -38,23 +38,24 @@ class Serving:
     """The program while it serves. That it ends before it is told to is a complaint, and what it writes on standard error, but where it listens
     and that it may have few descriptors.
 
-    `address_space` is how many KiB of addresses it may have."""
+    `address_space` is how many KiB of addresses it may have, `rows` what it says that its store has, and `begun` has further words of
+    `subprocess.Popen`."""
 
-    def __init__(self, program, *options, address_space=None):
-        self.program, self.options, self.address_space = program, options, address_space
+    def __init__(self, program, *options, address_space=None, rows=0, begun=None):
+        self.program, self.options, self.address_space, self.rows, self.begun = program, options, address_space, rows, begun or {}
 
     def __enter__(self):
         self.errors = tempfile.TemporaryFile()
         with BEGINNING:
             self.port = free_port()
             command = [self.program, "serve", "--port", str(self.port), "--turns", str(TURNS), *self.options]
-            self.process = subprocess.Popen(command, stdout=subprocess.PIPE, stderr=self.errors)
+            self.process = subprocess.Popen(command, stdout=subprocess.PIPE, stderr=self.errors, **self.begun)
         self.base = f"http://{HOST}:{self.port}/hub"
         if self.address_space:
             resource.prlimit(self.process.pid, resource.RLIMIT_AS, (self.address_space * 1_024,) * 2)
         ready, _, _ = select.select([self.process.stdout], [], [], START)
         line = self.process.stdout.readline() if ready else b""
-        if line != b"serving 0\n":
+        if line != b"serving %d\n" % self.rows:
             self.__exit__()
             sys.exit(f"{self.program} serve: said {line!r} and not that it serves")
         return self
