@@ -351,6 +351,7 @@ REFUSED_IN_PACK = [
     (b"\x93\x02", "Short 2"),
     (b"\xdd\xff\xff\xff\xff", "Short 5"),
     (b"\xc1", "Never 0"),
+    (b"\x91" * 65 + b"\xc0", "TooDeep 64"),
     (b"\x94\x02\x80\xa11\xcb?\xf8\x00\x00\x00\x00\x00\x00", "Fraction 5"),
     (b"\x91\xca@\xc0\x00\x00", "Fraction 1"),
     (b"\x92\x06\xd4\x01\x02", "Ext 2"),

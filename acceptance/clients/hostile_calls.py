@@ -365,6 +365,11 @@ CALL_CASES = [
         later(3, call("2", "Echo", 2), sequence(2), call("3", "Echo", 3), 2),
     ),
     (
+        "a thousand messages before their Sequence, of which none counts",
+        f'{sequence(1)} {ack(1)} {end("1", result=1)} {ack(2)} {end("3", result=3)}',
+        later(3, *[call("2", "Echo", 2)] * 1_000, sequence(2), call("3", "Echo", 3), 2),
+    ),
+    (
         "messages that were said before",
         f'{sequence(1)} {ack(1)} {end("1", result=1)} {ack(2)} {end("2", result=2)}',
         later(3, sequence(0), *[call("1", "Echo", 9)] * 2, call("2", "Echo", 2), 2),
