@@ -7,6 +7,7 @@
 It follows docs/http.md and shares no code with the program: heads are found by regular expressions, each time anew, and the phrases,
 the digests and the decoding of queries are those of Python's http, hashlib, base64 and urllib."""
 import base64
+import collections
 import hashlib
 import http
 import re
@@ -169,10 +170,17 @@ class Lane:
             return None
         body = self.held[head.end() : self.want]
         self.held, self.want, self.ended, self.due = self.held[self.want :], 0, ended, False
+        return self.handed_out(line, body)
+
+    def handed_out(self, line, body):
         return line + f"{len(body)} [{shown(body[:64])}]"
 
 
-def read_request(head):
+# A head that isn't refused. The target's parts are its bytes; a bearer and the text that accepts a WebSocket may be None.
+Request = collections.namedtuple("Request", "method path query bearer accept shut length expects")
+
+
+def request_of(head):
     method, target, minor, text = head.groups()
     try:
         target.decode("utf-8")
@@ -187,21 +195,33 @@ def read_request(head):
     check_body(fields, length)
     expects = minor == b"1" and b"100-continue" in elements(fields, b"expect")
     path, _, query = target.partition(b"?")
-    word = {b"GET": "Get", b"POST": "Post", b"DELETE": "Delete"}.get(method, "Other")
-    shut = "shut" if minor == b"0" or b"close" in elements(fields, b"connection") else "open"
-    bearer = dash(bearer_of(fields, query))
-    return length, upgrade is not None, expects, f"request {word} [{shown(path)}] [{shown(query)}] {bearer} {dash(upgrade)} {shut} "
+    shut = minor == b"0" or b"close" in elements(fields, b"connection")
+    return Request(method, path, query, bearer_of(fields, query), upgrade, shut, length, expects)
 
 
-def read_response(head):
+def read_request(head):
+    it = request_of(head)
+    word = {b"GET": "Get", b"POST": "Post", b"DELETE": "Delete"}.get(it.method, "Other")
+    said = f"{dash(it.bearer)} {dash(it.accept)} {'shut' if it.shut else 'open'} "
+    return it.length, it.accept is not None, it.expects, f"request {word} [{shown(it.path)}] [{shown(it.query)}] {said}"
+
+
+Response = collections.namedtuple("Response", "status accept length")
+
+
+def response_of(head):
     _, digits, text = head.groups()
     fields = fields_of(text)
     length = length_of(fields)
     if length is None:
         raise Refused(400)
     check_body(fields, length)
-    status = int(digits)
-    return length, status == 101, False, f"response {status} {dash(first(fields, b'sec-websocket-accept'))} "
+    return Response(int(digits), first(fields, b"sec-websocket-accept"), length)
+
+
+def read_response(head):
+    it = response_of(head)
+    return it.length, it.status == 101, False, f"response {it.status} {dash(it.accept)} "
 
 
 # ---- what is written
@@ -226,10 +246,11 @@ def reply_of(status, kind, field, close, bytes_):
     return text + b"\r\n" + bytes_
 
 
+CONTINUE = f"HTTP/1.1 {http.HTTPStatus.CONTINUE.value} {http.HTTPStatus.CONTINUE.phrase}\r\n\r\n".encode()
+
+
 def continue_of():
-    status = http.HTTPStatus.CONTINUE
-    text = f"HTTP/1.1 {status.value} {status.phrase}\r\n\r\n".encode()
-    return f"continue [{shown(text)}]"
+    return f"continue [{shown(CONTINUE)}]"
 
 
 def ask_of(method, host, target, key):

@@ -4,6 +4,7 @@ Each end, each table of own calls and each table of jobs is the list of what hap
 rules are those of docs/delivery.md, docs/calls.md and docs/hubs.md, and the methods those of docs/protocol.md."""
 import json
 
+import frames_model
 import replay_model
 from calls_model import REFUSED, Jobs, OwnCalls, calculator
 from replay_model import Refused, json_text, number_of
@@ -26,22 +27,12 @@ def depth(value):
     return 0 if inner is None else 1 + max(map(depth, inner), default=0)
 
 
-def has_fraction(value):
-    inner = values_in(value)
-    if inner is not None:
-        return any(map(has_fraction, inner))
-    return isinstance(value, float) or isinstance(value, int) and not -(2**63) <= value < 2**64
-
-
 def value_of(text):
     """The value of a JSON text in a script."""
     try:
-        value = json.loads(text)
-    except ValueError:
+        return frames_model.value_of(text.encode())
+    except frames_model.Refused:
         raise Refused
-    if has_fraction(value) or depth(value) > 64:
-        raise Refused
-    return value
 
 
 def values_of(text):

@@ -7,12 +7,11 @@
 The last line of the second is 'N passed, N failed', and its status 0 if none failed.
 
 It follows the rules of docs/delivery.md and docs/protocol.md and shares no code with the program. What scripts with `peers on` do
-beside that stands in peers_model.py. It reads a message of a
-script with Python's json and takes any object of type 1 to 5 for one, so it is for scripts whose messages have their
-fields and are written in the usual way."""
+beside that stands in peers_model.py, and what a message of a script says in frames_model.py."""
 import collections
 import difflib
 import functools
+import itertools
 import json
 import random
 import subprocess
@@ -286,6 +285,20 @@ def count_of(word):
     return number_of(word)
 
 
+def message_of(text):
+    """The message of a JSON text in a script, if it is one of those that count."""
+    import frames_model
+    try: tree = frames_model.message_in_json(text.encode())
+    except frames_model.Refused: raise Refused
+    if not isinstance(tree, dict) or tree["type"] > 5: raise Refused
+    return tree
+
+
+def is_text(line):
+    """A line that was no UTF-8 has letters in it that no text has."""
+    return not any("\udc80" <= letter <= "\udcff" for letter in line)
+
+
 def number_of(word):
     if not word.isascii() or not word.isdigit() or word != str(int(word)) or int(word) >= 1 << 64: raise Refused
     return int(word)
@@ -299,9 +312,10 @@ class Script:
         self.report, self.ends, self.frames = [], None, {}
 
     def line(self, text):
+        if not is_text(text): raise Refused
         if text == "" or text.startswith("#"): return
         word, _, rest = text.partition(" ")
-        if word in ("codec", "version", "reconnect", "buffer", "peers"): return self.option(word, rest)
+        if word in OPTIONS: return self.option(word, rest)
         act = self.action(text)
         if not self.begun: self.begin()
         act()
@@ -351,9 +365,7 @@ class Script:
             n = count_of(words[0])
             return lambda: self.write(side, n) if verb == "write" else self.read(side, n)
         if verb != "send": raise Refused
-        try: tree = json.loads(text)
-        except ValueError: raise Refused
-        if not isinstance(tree, dict) or tree.get("type") not in (1, 2, 3, 4, 5): raise Refused
+        tree = message_of(text)
         return lambda: self.send(side, json_text(tree))
 
     def say(self, side, words): self.report.append(f"{side} {words}")
@@ -437,14 +449,23 @@ class Script:
         return "".join(line + "\n" for line in self.report)
 
 
+OPTIONS = "codec", "version", "reconnect", "buffer", "peers"
+
+
+def options_of(lines):
+    """The lines before the first that is an action."""
+    return itertools.takewhile(lambda line: line == "" or line.startswith("#") or line.split(" ")[0] in OPTIONS, lines)
+
+
 def new_script(lines):
-    if "peers on" not in lines: return Script()
+    if "peers on" not in options_of(lines): return Script()
     import peers_model
     return peers_model.Replay()
 
 
 def report_of(script):
-    """The report and the exit status."""
+    """The report of a script, a text or bytes, and the exit status."""
+    if isinstance(script, bytes): script = script.decode(errors="surrogateescape")
     lines = script.removesuffix("\n").split("\n") if script else []
     s = new_script(lines)
     for number, line in enumerate(lines, 1):
