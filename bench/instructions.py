@@ -1,31 +1,23 @@
 #!/usr/bin/env python3
 """Counts the instructions that `sr serve` takes for one call of Echo, by callgrind, which other work on the machine doesn't disturb. It is no test.
 
-    bench/instructions.py [--connections K] [--turns FROM TO] [--seconds S] [--crates N] PROGRAM
+    bench/instructions.py [--connections K] [--idle I] [--calls FROM TO] [--crates N] PROGRAM
 
-Two bounded runs of the server (`serve --turns N`), each under the load of bench/serve/load.c: K connections, each with one Echo of 100 bytes in
-flight. The difference of the two is divided by the calls that began a job in it (`Peer::begin`), so the start and the handshakes drop out. Told are the
-instructions of a call, and those of each crate, the dearest first. A server under callgrind is slow, so its share of turns in which nothing is heard
-differs from run to run, by some percent of the whole."""
+Two runs of the server, each under the load of bench/serve/load.c until so many calls are answered: K connections, each with one Echo of 100 bytes in
+flight, beside I idle ones. The difference of the two is divided by that of the calls, so the start and the handshakes drop out. Told are the
+instructions of a call, and those of each crate, the dearest first, if the program has its names: a release is stripped. A server under
+callgrind is slow, so its share of turns in which nothing is heard differs from run to run, by some percent of the whole."""
 import argparse
 import collections
 import os
 import pathlib
 import re
 import shutil
-import socket
 import subprocess
 import sys
 import tempfile
 
-FOLDER = pathlib.Path(__file__).resolve().parent / "serve"
-BEGINS = "Peer::begin::"
-
-
-def free_port():
-    with socket.socket() as taken:
-        taken.bind(("127.0.0.1", 0))
-        return taken.getsockname()[1]
+from serve import built, free_port
 
 
 def named(word, names):
@@ -37,36 +29,48 @@ def named(word, names):
 
 
 def costs(profile):
-    """By function: its own instructions, and how often it was called."""
-    own, calls, names = collections.Counter(), collections.Counter(), {}
-    function = called = None
+    """By function, its own instructions."""
+    own, names = collections.Counter(), {}
+    function = None
     is_call = False
     for line in pathlib.Path(profile).read_text().splitlines():
         if line.startswith("fn="):
             function = named(line[3:], names)
         elif line.startswith("cfn="):
-            called = named(line[4:], names)
+            named(line[4:], names)
         elif line.startswith("calls="):
-            calls[called] += int(line[6:].split()[0])
             is_call = True
         elif re.match(r"[0-9+*-]", line) and len(line.split()) > 1:
             if not is_call:
                 own[function] += int(line.split()[1])
             is_call = False
-    return own, calls
+    return own
 
 
-def run(program, load, turns, asked, folder):
-    """The profile of a server that ends after so many turns."""
-    profile, port = os.path.join(folder, str(turns)), free_port()
-    words = ["valgrind", "--tool=callgrind", f"--callgrind-out-file={profile}", program, "serve", "--port", str(port), "--turns", str(turns)]
+def run(program, load, calls, asked, folder):
+    """The profile of a server that answers so many calls."""
+    profile, port = os.path.join(folder, str(calls)), free_port()
+    words = ["valgrind", "--tool=callgrind", f"--callgrind-out-file={profile}", program, "serve", "--port", str(port)]
     server = subprocess.Popen(words, stdout=subprocess.PIPE, stderr=subprocess.DEVNULL, text=True)
     if not server.stdout.readline().startswith("serving"):
         raise SystemExit(f"{program} doesn't serve")
-    subprocess.run([load, str(port), "echo", str(asked.connections), str(asked.seconds)], stdout=subprocess.DEVNULL, stderr=subprocess.DEVNULL)
-    # The turns that are left are quiet, and come each 100 ms.
-    server.wait(timeout=600)
+    subprocess.run([load, str(port), "echoes", str(asked.connections), str(calls), str(asked.idle)], stdout=subprocess.DEVNULL, check=True)
+    server.terminate()
+    server.wait()
     return costs(profile)
+
+
+def counted(program, asked):
+    """The instructions of a call by crate."""
+    if not shutil.which("valgrind"):
+        raise SystemExit("valgrind isn't installed")
+    with tempfile.TemporaryDirectory() as folder:
+        load = built(folder, "load")
+        first, last = (run(program, load, calls, asked, folder) for calls in asked.calls)
+    count, by_crate = asked.calls[1] - asked.calls[0], collections.Counter()
+    for name in last.keys() | first.keys():
+        by_crate[crate_of(name)] += (last[name] - first[name]) / count
+    return by_crate
 
 
 def crate_of(function):
@@ -79,26 +83,15 @@ def crate_of(function):
 def main():
     parser = argparse.ArgumentParser(description=__doc__, formatter_class=argparse.RawDescriptionHelpFormatter)
     parser.add_argument("--connections", type=int, default=50)
-    parser.add_argument("--turns", type=int, nargs=2, default=(1_000, 4_000))
-    parser.add_argument("--seconds", type=int, default=6)
+    parser.add_argument("--idle", type=int, default=0)
+    parser.add_argument("--calls", type=int, nargs=2, default=(2_000, 12_000))
     parser.add_argument("--crates", type=int, default=12)
     parser.add_argument("program")
     asked = parser.parse_args()
-    if not shutil.which("valgrind"):
-        raise SystemExit("valgrind isn't installed")
-    with tempfile.TemporaryDirectory() as folder:
-        load = os.path.join(folder, "load")
-        subprocess.run(["cc", "-O2", "-o", load, str(FOLDER / "load.c")], check=True)
-        (first, first_calls), (last, last_calls) = (run(asked.program, load, turns, asked, folder) for turns in asked.turns)
-    count = sum(number - first_calls[name] for name, number in last_calls.items() if BEGINS in name)
-    if count <= 0:
-        raise SystemExit(f"no call of {BEGINS} stands in the profile: more turns are needed, or the program is stripped")
-    by_crate = collections.Counter()
-    for name in last.keys() | first.keys():
-        by_crate[crate_of(name)] += last[name] - first[name]
-    print(f"instructions of an echo, {asked.connections} connections ({count} calls): {sum(by_crate.values()) / count:,.0f}")
+    by_crate = counted(asked.program, asked)
+    print(f"instructions of an echo, {asked.connections} connections: {sum(by_crate.values()):,.0f}")
     for crate, number in by_crate.most_common(asked.crates):
-        print(f"    {crate:<20}{number / count:>10,.0f}")
+        print(f"    {crate:<20}{number:>10,.0f}")
     return 0
 
 

@@ -35,7 +35,6 @@ import tempfile
 
 TOP = pathlib.Path(__file__).resolve().parent.parent
 FOLDER = TOP / "bench" / "serve"
-TICK = os.sysconf("SC_CLK_TCK")
 # Time for four pings.
 HOLD_SECONDS = 60
 
@@ -83,7 +82,7 @@ def go_server(folder):
     go, program = shutil.which("go"), os.path.join(folder, "go_server")
     if not go:
         return [], "golang isn't installed"
-    settings = {"GO111MODULE": "off", "GOPATH": "/usr/share/gocode", "GOCACHE": os.path.join(folder, "cache"), "GOFLAGS": ""}
+    settings = {"GO111MODULE": "off", "GOPATH": "/usr/share/gocode", "GOCACHE": os.path.join(tempfile.gettempdir(), "sr-bench-go"), "GOFLAGS": ""}
     made = subprocess.run([go, "build", "-o", program, str(FOLDER / "go_server.go")], env=os.environ | settings, stderr=subprocess.PIPE, text=True)
     return [program], "" if made.returncode == 0 else f"go_server.go doesn't build: {made.stderr.strip().splitlines()[-1]}"
 
@@ -134,8 +133,8 @@ def resident(process):
 
 
 def processor_us(process):
-    fields = pathlib.Path(f"/proc/{process.pid}/stat").read_text().rpartition(")")[2].split()
-    return sum(map(int, fields[11:13])) * 1_000_000 / TICK
+    """Of all its threads: the first number of each is nanoseconds."""
+    return sum(int(threads.read_text().split()[0]) for threads in pathlib.Path(f"/proc/{process.pid}/task").glob("*/schedstat")) / 1_000
 
 
 @contextlib.contextmanager
@@ -151,21 +150,25 @@ def started(command):
         process.wait()
 
 
+def loaded(load, port, process, measure):
+    """What load.c tells of one run against a server, and that server's memory and processor time."""
+    before = resident(process)
+    client = subprocess.Popen([*pinned(1), load, str(port), *measure.words], stdout=subprocess.PIPE, text=True)
+    told = json.loads(client.stdout.readline() or "{}")
+    memory, began = resident(process) - before, processor_us(process)
+    told |= json.loads(client.stdout.readline() or "{}")
+    if client.wait() != 0 or "count" not in told:
+        raise SystemExit(f"{measure.title} failed at {process.args}")
+    told["cost_us"] = (processor_us(process) - began) / max(told["count"], 1)
+    told["memory"], told["memory_after"] = memory / told["opened"], (resident(process) - before) / told["opened"]
+    return told
+
+
 def run(load, server, measure):
-    """What load.c tells of one run, and the server's memory and processor time."""
+    """The same of a server that is begun for it."""
     port = free_port()
     with started(server.command(port, *measure.options)) as process:
-        before = resident(process)
-        client = subprocess.Popen([*pinned(1), load, str(port), *measure.words], stdout=subprocess.PIPE, text=True)
-        told = json.loads(client.stdout.readline() or "{}")
-        memory, began = resident(process) - before, processor_us(process)
-        told |= json.loads(client.stdout.readline() or "{}")
-        if client.wait() != 0 or "count" not in told:
-            raise SystemExit(f"{measure.title} failed at {server.name}")
-        count = max(told["count"], 1)
-        told["cost_us"] = (processor_us(process) - began) / count
-        told["memory"], told["memory_after"] = memory / told["opened"], (resident(process) - before) / told["opened"]
-        return told
+        return loaded(load, port, process, measure)
 
 
 def built(folder, name):

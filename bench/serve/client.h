@@ -1,4 +1,4 @@
-// What load.c and losses.c share: the client's side of HTTP, WebSocket and the hub protocol in JSON, over sockets of 127.0.0.1.
+// What the programs in C beside it share: the client's side of HTTP, WebSocket and the hub protocol in JSON, over sockets of 127.0.0.1.
 // A fault of the other side ends the program with a word: these are measurements, and one that went wrong tells nothing.
 #ifndef CLIENT_H
 #define CLIENT_H
@@ -20,7 +20,7 @@
 
 enum { SEPARATOR = 0x1e, TEXT = 1, CLOSE = 8, PING = 9, PONG = 10 };
 // A frame that this client writes, and a head of HTTP, are shorter.
-enum { FRAME_ROOM = 4096, HEAD_ROOM = 4096 };
+enum { FRAME_ROOM = 40000, HEAD_ROOM = 4096 };
 // Of each loopback address at most so many ports are used, which is less than the system has for one.
 enum { LINKS_OF_AN_ADDRESS = 5000 };
 
@@ -40,6 +40,9 @@ static uint64_t now_us(void) {
     return (uint64_t)now.tv_sec * 1000000 + now.tv_nsec / 1000;
 }
 
+// So many bytes that nobody has read the system holds of a socket that is dialed, if it isn't to choose.
+static int unread_room;
+
 // A connected socket, which waits. The link's number chooses the address from which it comes.
 static int dial(int port, int number) {
     int fd = socket(AF_INET, SOCK_STREAM | SOCK_CLOEXEC, 0), one = 1;
@@ -48,6 +51,7 @@ static int dial(int port, int number) {
     to.sin_addr.s_addr = htonl(INADDR_LOOPBACK);
     if (fd < 0) fail("no socket: %s", strerror(errno));
     setsockopt(fd, IPPROTO_TCP, TCP_NODELAY, &one, sizeof one);
+    if (unread_room) setsockopt(fd, SOL_SOCKET, SO_RCVBUF, &unread_room, sizeof unread_room);
     setsockopt(fd, IPPROTO_IP, IP_BIND_ADDRESS_NO_PORT, &one, sizeof one);
     if (bind(fd, (struct sockaddr *)&from, sizeof from) < 0) fail("no address: %s", strerror(errno));
     if (connect(fd, (struct sockaddr *)&to, sizeof to) < 0) fail("no connection: %s", strerror(errno));
@@ -95,13 +99,17 @@ static void say_message(int fd, const char *format, ...) {
     say(fd, TEXT, text, length + 1);
 }
 
-static void ask_upgrade(int fd, const char *token) {
-    char head[HEAD_ROOM];
-    int length = snprintf(head, sizeof head,
+// The head that asks for a WebSocket, of which the length is answered.
+static int upgrade_of(const char *token, char *out) {
+    return snprintf(out, HEAD_ROOM,
         "GET /hub%s%s HTTP/1.1\r\nHost: 127.0.0.1\r\nUpgrade: websocket\r\nConnection: Upgrade\r\n"
         "Sec-WebSocket-Key: dGhlIHNhbXBsZSBub25jZQ==\r\nSec-WebSocket-Version: 13\r\n\r\n",
         token ? "?id=" : "", token ? token : "");
-    write_all(fd, head, length);
+}
+
+static void ask_upgrade(int fd, const char *token) {
+    char head[HEAD_ROOM];
+    write_all(fd, head, upgrade_of(token, head));
 }
 
 // The place after the head of a response whose status is the one given, or 0 if it isn't there yet.

@@ -1,9 +1,12 @@
 // Loads a hub server with many connections over WebSockets, and tells what it does as one JSON object a line.
 //
 //     load PORT echo CONNECTIONS SECONDS [IDLE] each keeps one Echo of 100 bytes in flight, beside others that are idle
-//     load PORT broadcast MEMBERS SECONDS       one posts to a room, and again once all its members were told
+//     load PORT echoes CONNECTIONS COUNT [IDLE] the same until so many are answered
+//     load PORT fed CONNECTIONS BYTES           one after the other has one Echo of so many bytes
+//     load PORT broadcast MEMBERS SECONDS [P]   P members (one) post to a room, and again once all its members were told
 //     load PORT hold CONNECTIONS SECONDS        all are open and ping each 15 seconds
-//     load PORT stream ITEMS [kept]             one Count; with `kept` over a connection that may be resumed, which acknowledges
+//     load PORT stream ITEMS [kept|slow]        one Count; with `kept` over a connection that may be resumed, which acknowledges; with `slow`
+//                                               it reads a megabyte a second
 //
 // It is one loop over `epoll`. Of what comes on a link it keeps only a frame that isn't whole yet.
 #include "client.h"
@@ -30,10 +33,10 @@ struct mode {
 };
 
 // Of one read, and before it the front of a frame that the link kept.
-enum { READ_ROOM = 1 << 18, HELD_ROOM = 1 << 18 };
+enum { READ_ROOM = 1 << 18, HELD_ROOM = 1 << 18, SLOW_ROOM = 1 << 14 };
 // So many links are opened side by side, which is less than the least backlog of the servers.
 enum { OPENING = 64 };
-enum { ECHO_BYTES = 100 };
+enum { ECHO_BYTES = 100, ECHO_ROOM = 32000 };
 static const uint64_t SECOND = 1000000, KEEP_ALIVE = 15 * SECOND;
 
 static int poller, port, links_asked, links_open, links_gone;
@@ -41,6 +44,7 @@ static struct link *links;
 static struct mode mode;
 static const char *token;
 static int version = 1;
+static bool is_slow;
 static uint64_t began_at;
 static char room[HELD_ROOM + READ_ROOM];
 
@@ -114,8 +118,10 @@ static size_t hear_bytes(struct link *link, const char *bytes, size_t length) {
 
 static void hear_link(struct link *link) {
     if (link->held) memcpy(room, link->held, link->held_length);
-    ssize_t count = recv(link->fd, room + link->held_length, READ_ROOM, 0);
+    ssize_t count = recv(link->fd, room + link->held_length, is_slow ? SLOW_ROOM : READ_ROOM, 0);
     if (count < 0 && errno == EAGAIN) return;
+    // A byte a microsecond is a megabyte a second.
+    if (is_slow && count > 0) usleep(count);
     if (count <= 0) {
         lose_link(link);
         return;
@@ -176,9 +182,12 @@ static void ignore_opening(struct link *link) {
 enum { LATENCIES = 1000000 };
 static uint32_t latencies[LATENCIES];
 static uint64_t echoes, counts_from;
-static char words[ECHO_BYTES + 1];
+static char words[ECHO_ROOM + 1];
+static long asks_left = -1;
 
 static void ask_echo(struct link *link) {
+    if (asks_left == 0) return;
+    if (asks_left > 0) asks_left--;
     link->asked_at = now_us();
     say_message(link->fd, "{\"type\":1,\"invocationId\":\"%ld\",\"target\":\"Echo\",\"arguments\":[\"%s\"]}", ++link->id, words);
 }
@@ -226,6 +235,33 @@ static void run_echo(int count, int seconds, int idle) {
     printf("\"median_us\":%d,\"p99_us\":%d}\n", latency_of(0.5), latency_of(0.99));
 }
 
+static void run_echoes(int count, long calls, int idle) {
+    memset(words, 'e', ECHO_BYTES);
+    mode = (struct mode){ignore_opening, hear_echo};
+    open_links(count + idle);
+    tell_warm();
+    asks_left = calls;
+    for (int i = 0; i < count; i++) ask_echo(&links[i]);
+    while (echoes < (uint64_t)calls && links_gone == 0) hear_all();
+    if (links_gone > 0) fail("a link was lost");
+    printf("{\"phase\":\"done\",\"count\":%lu}\n", echoes);
+}
+
+static void run_fed(int count, int bytes) {
+    if (bytes > ECHO_ROOM) fail("an echo has at most %d bytes", ECHO_ROOM);
+    memset(words, 'e', bytes);
+    mode = (struct mode){ignore_opening, hear_echo};
+    open_links(count);
+    for (int i = 0; i < count; i++) {
+        asks_left = 1;
+        ask_echo(&links[i]);
+        while (echoes <= (uint64_t)i && links_gone == 0) hear_all();
+    }
+    hear_until(now_us() + SECOND);
+    tell_warm();
+    printf("{\"phase\":\"done\",\"count\":%lu}\n", echoes);
+}
+
 // --- broadcast
 
 static int joined, told;
@@ -245,7 +281,7 @@ static void hear_posted(struct link *link, const char *text, size_t length) {
     }
 }
 
-static void run_broadcast(int count, int seconds) {
+static void run_broadcast(int count, int seconds, int posters) {
     uint64_t began, now, most = 0;
     mode = (struct mode){ask_join, hear_posted};
     open_links(count);
@@ -253,14 +289,15 @@ static void run_broadcast(int count, int seconds) {
     tell_warm();
     for (began = now = now_us(); now < began + seconds * SECOND; rounds++) {
         told = 0;
-        say_message(links[0].fd, "{\"type\":1,\"target\":\"Post\",\"arguments\":[\"room\",\"text %ld\"]}", rounds);
-        while (told < count && links_gone == 0) hear_all();
+        for (int i = 0; i < posters; i++) say_message(links[i].fd, "{\"type\":1,\"target\":\"Post\",\"arguments\":[\"room\",\"text %ld\"]}", rounds);
+        while (told < count * posters && links_gone == 0) hear_all();
         if (links_gone > 0) fail("a member was lost");
         uint64_t then = now;
         now = now_us();
         most = now - then > most ? now - then : most;
     }
-    printf("{\"phase\":\"done\",\"count\":%ld,\"rate\":%.0f,", count * rounds, (double)count * rounds * SECOND / (now - began));
+    long deliveries = rounds * count * posters;
+    printf("{\"phase\":\"done\",\"count\":%ld,\"rate\":%.0f,", deliveries, (double)deliveries * SECOND / (now - began));
     printf("\"round_us\":%.0f,\"most_us\":%lu}\n", (double)(now - began) / rounds, most);
 }
 
@@ -309,6 +346,8 @@ static void run_stream(long count, bool is_kept) {
     mode = (struct mode){ignore_opening, hear_item};
     open_links(1);
     tell_warm();
+    // So that who measures has looked before it begins.
+    usleep(SECOND / 10);
     uint64_t began = now_us();
     say_message(links[0].fd, "{\"type\":4,\"invocationId\":\"s\",\"target\":\"Count\",\"arguments\":[%ld]}", count);
     while (!has_ended && links_gone == 0) hear_all();
@@ -317,14 +356,17 @@ static void run_stream(long count, bool is_kept) {
 }
 
 int main(int count, char **word) {
-    if (count < 4) fail("load PORT echo|broadcast|hold|stream COUNT [SECONDS|kept]");
+    if (count < 4) fail("load PORT echo|echoes|fed|broadcast|hold|stream COUNT [SECONDS|BYTES|kept|slow]");
     open_many_files();
     began_at = now_us();
     port = atoi(word[1]);
+    is_slow = count > 4 && strcmp(word[4], "slow") == 0;
     const char *name = word[2], *last = count > 4 ? word[4] : "";
     long number = atol(word[3]);
     if (strcmp(name, "echo") == 0) run_echo(number, atoi(last), count > 5 ? atoi(word[5]) : 0);
-    else if (strcmp(name, "broadcast") == 0) run_broadcast(number, atoi(last));
+    else if (strcmp(name, "echoes") == 0) run_echoes(number, atol(last), count > 5 ? atoi(word[5]) : 0);
+    else if (strcmp(name, "fed") == 0) run_fed(number, atoi(last));
+    else if (strcmp(name, "broadcast") == 0) run_broadcast(number, atoi(last), count > 5 ? atoi(word[5]) : 1);
     else if (strcmp(name, "hold") == 0) run_hold(number, atoi(last));
     else if (strcmp(name, "stream") == 0) run_stream(number, strcmp(last, "kept") == 0);
     else fail("no mode is called %s", name);
