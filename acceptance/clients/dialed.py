@@ -2,11 +2,14 @@
 
 A case is its name, what it has to answer, and a function of the program. By docs/protocol.md, "Calling a server", and docs/lanes.md: a connection is
 dialed by a POST for a token and then a GET with it; a dial whose socket isn't up is lost, and after the first in a row the next comes at once, after
-the second, third and fourth 500, 1,000 and 2,000 ms later; the fifth ends the client. A socket that comes up begins that count anew."""
+the second, third and fourth 500, 1,000 and 2,000 ms later; the fifth ends the client. A socket that comes up begins that count anew. If a connection
+couldn't be made, and none was made after it, standard error says why."""
 import base64
 import concurrent.futures
 import contextlib
+import errno
 import json
+import os
 import re
 import socket
 import threading
@@ -273,28 +276,63 @@ def five_sockets_lost(program):
         return moments, (*end, stub.others(), {*targets})
 
 
-def nobody_there(program):
-    """Nothing listens at the port. Answers whether it took as long as all pauses, and how it ended."""
-    with Stub(listens=False) as stub, Running(program, [stub.url()], b"call Echo [1]\n") as client:
-        end = client.ended()
-        return time.monotonic() - client.began >= sum(PAUSES), end
+def why(number, host=HOST):
+    """What is said of a connection that the system couldn't make for this reason."""
+    return f"sr: http://{host}:PORT/hub: {os.strerror(number)} (os error {number})\n"
+
+
+def said_why(client, stub):
+    return client.process.stderr.read().decode().replace(f":{stub.port}/", ":PORT/")
+
+
+def nobody_there(host):
+    """Nothing listens at the port. Answers whether it took as long as all pauses, how it ended, and why it says."""
+
+    def case(program):
+        name = f"[{host}]" if ":" in host else host
+        with Stub(host, listens=False) as stub, Running(program, [f"http://{name}:{stub.port}/hub"], b"call Echo [1]\n") as client:
+            end = client.ended()
+            return time.monotonic() - client.began >= sum(PAUSES), end, said_why(client, stub)
+
+    return case
 
 
 def no_descriptor(program):
     """No descriptor is left for a connection, so each dial is lost."""
     with Stub() as stub, Running(program, [stub.url()], limit=FEW_DESCRIPTORS) as client:
         end = client.ended()
-        return time.monotonic() - client.began >= sum(PAUSES), end, stub.others()
+        return time.monotonic() - client.began >= sum(PAUSES), end, stub.others(), said_why(client, stub)
 
 
-def comes_late(program):
-    """A server that is there after two seconds and a half."""
-    with Stub(listens=False) as stub, Running(program, [stub.url()]) as client:
-        time.sleep(2.5)
-        stub.socket.listen()
+def late_server(answers):
+    """A server that is there after two seconds and a half, and then does this. Answers how the client ended, and why it says."""
+
+    def case(program):
+        with Stub(listens=False) as stub, Running(program, [stub.url()]) as client:
+            time.sleep(2.5)
+            stub.socket.listen()
+            answers(stub)
+            return client.ended(), said_why(client, stub)
+
+    return case
+
+
+def is_met(stub):
+    stub.tells()
+    greets(stub)
+
+
+def goes_away(program):
+    """A server that is gone once its socket is up."""
+    with Stub() as stub, Running(program, [stub.url()], b"call Echo [1]\n") as client:
         stub.tells()
-        greets(stub)
-        return client.ended()
+        lane = stub.comes_up()
+        lane.hear()
+        lane.say(b"{}\x1e")
+        lane.hear()
+        stub.socket.close()
+        lane.finish()
+        return client.ended(), said_why(client, stub)
 
 
 def greets(stub):
@@ -333,9 +371,12 @@ def paused(one, *ends):
 DIAL_CASES = [
     ("five dials are lost", *paused(five_lost, 0)),
     ("a token is told, and five sockets are lost", *paused(five_sockets_lost, 0, {"/hub?id=kT"})),
-    ("nobody is there", (True, REFUSED), nobody_there),
-    ("no descriptor is left for a connection", (True, REFUSED, 0), no_descriptor),
-    ("a server that comes late is met", (0, ["shaken"]), comes_late),
+    ("nobody is there", (True, REFUSED, why(errno.ECONNREFUSED)), nobody_there(HOST)),
+    ("nobody is there, at IPv6", (True, REFUSED, why(errno.ECONNREFUSED, "[::1]")), on_ipv6(nobody_there("::1"))),
+    ("no descriptor is left for a connection", (True, REFUSED, 0, why(errno.EMFILE)), no_descriptor),
+    ("a server that comes late is met", ((0, ["shaken"]), ""), late_server(is_met)),
+    ("a server that comes late refuses, and nothing is said of the time before", (REFUSED, ""), late_server(lambda stub: stub.tells(status=404))),
+    ("a server goes away", ((8, LOST), why(errno.ECONNREFUSED)), goes_away),
     ("a socket that is up begins the count anew", (0, ["shaken", "call 1", "lost", "again", "ended 1 result 1"]), counts_anew),
 ]
 
@@ -343,6 +384,7 @@ DIAL_CASES = [
 # ---- half a minute
 
 BUSY = 10  # seconds by which a busy machine may be late
+TYPED = 31  # seconds, a second more than a response may take
 
 
 def is_silent(program, granted=True):
@@ -383,11 +425,24 @@ def answers_nothing(program):
         return 30 - CLOCK <= took < 30 + BUSY, client.ended()
 
 
+def typed_slowly(program):
+    """A script that is typed for longer than a response may take, and a server that answers. Answers how it ended, and how many dials were lost."""
+    read, write = os.pipe()
+    with Stub() as stub, Running(program, [stub.url()], stdin=read) as client:
+        os.close(read)
+        time.sleep(TYPED)
+        os.close(write)
+        stub.tells()
+        greets(stub)
+        return client.ended(), stub.others()
+
+
 PINGED = '{"type":6}\x1e', True, True, (8, 1000)
 SLOW_CASES = [
     ("a server that says nothing is pinged after 15 s, lost after 30, and met again", (*PINGED, (0, [*LOST, "again", "ended 1 result 1"])), is_silent),
     ("a client whose connection isn't kept ends then", (*PINGED, (8, [*LOST, "ended 1 gone"])), lambda program: is_silent(program, False)),
     ("a negotiate that isn't answered is lost after 30 s", (True, REFUSED), answers_nothing),
+    ("a script may be typed for longer than that", ((0, ["shaken"]), 0), typed_slowly),
 ]
 
 CASES = REQUEST_CASES + RESPONSE_CASES

@@ -69,7 +69,8 @@ def never_reads(port):
     deaf = Hub(port, timeout=SILENCE + LATE)
     deaf.socket.setsockopt(socket.SOL_SOCKET, socket.SO_RCVBUF, 4_096)
     deaf.send(frame(TEXT, HANDSHAKE))
-    for number in range(1, 1_000):
+    # More than what is kept for it and what both systems hold, which grows as a server reads.
+    for number in range(1, 4_000):
         call = '{"type":1,"invocationId":"%d","target":"Echo","arguments":["%s"]}' % (number, "x" * 30_000)
         try:
             deaf.send(frame(TEXT, record(call)))
