@@ -33,6 +33,7 @@ VIEWER = TOP / "examples" / "viewer" / "index.html"
 OTHER = {"c": "s", "s": "c"}
 NAMES = {"c": "client", "s": "server"}
 WIDTH, HEIGHT = 1360, 900
+SHARE = 8  # of the places at which a session loses links, one of so many is drawn
 MOST_LINES = 400  # of a script that is drawn, since the model scans its lists again and again
 
 
@@ -250,6 +251,59 @@ SILENCE_ARROWS = [
     ["Ping", "control taken of-client"],
     ["Ping", "control lost of-server"],
 ]
+# The server has read both messages, and its Ack comes on the next link before they are said again there: the client goes on with a third.
+AGAIN = """open
+accept 0
+c write *
+s read *
+s write *
+c read *
+c send {"arguments":[],"target":"a","type":1}
+c send {"arguments":[],"target":"b","type":1}
+c write *
+s read *
+open
+accept 1
+c write 1
+s write *
+c read *
+c send {"arguments":[],"target":"c","type":1}
+c write *
+s read *
+"""
+AGAIN_ARROWS = [
+    ["handshake json 2", "control taken of-client"],
+    ["handshake ", "control taken of-server"],
+    ["1 a", "message taken of-client"],
+    ["2 b", "message taken of-client"],
+    ["Sequence 1", "control taken of-client"],
+    ["Sequence 1", "control taken of-server"],
+    ["Ack 2", "control taken of-server"],
+    ["Sequence 3", "control taken of-client"],
+    ["3 c", "message taken of-client"],
+]
+# In MessagePack the first message has 8 bytes after a length of one, the second, with a target of 130 letters, 138 after a length of two.
+PACKED = """codec pack
+open
+accept 0
+c write *
+s read *
+s write *
+c read *
+c send {"arguments":[],"target":"a","type":1}
+c send {"arguments":[],"target":"LONG","type":1}
+c write *
+s read 9
+s write *
+s read SIZE
+s write *
+s lose
+"""
+PACKED_ARROWS = [
+    ["handshake messagepack 2", "control taken of-client"],
+    ["handshake ", "control taken of-server"],
+    ["1 a", "message taken of-client"],
+]
 HANDSHAKE = b'{"protocol":"json","version":2}\x1e'.hex()
 ECHO = '{"arguments":[5],"invocationId":"7","target":"Echo","type":1}'
 FIVE = '{"invocationId":"7","result":5,"type":3}'
@@ -326,6 +380,21 @@ def try_silence(trial, page, program):
     moments = ["1,000 ms", "16,000 ms", "31,000 ms"]
     trial.check("a silence: its moments are drawn", page.texts(".moment") == moments, page.texts(".moment"))
     trial.check("a silence: it is told at the client", "silent" in " ".join(page.texts(".label")), page.texts(".label"))
+
+
+def try_sizes(trial, page, program):
+    """Which frames are whole in so many bytes."""
+    for size, ends in (139, [["lost", "1"]]), (140, [["taken", "1"], ["taken", "2"]]):
+        text = PACKED.replace("LONG", "x" * 130).replace("SIZE", str(size))
+        page.draw(report_of(program, text), text)
+        long = [f"2 {'x' * 33}…", f"message {ends[-1][0]} of-client"]
+        wanted_arrows = [*PACKED_ARROWS, long, *([f"Ack {count}", "control waiting of-server"] for _, count in ends)]
+        trial.check(f"of a message of 140 bytes {size} are read", page.arrows() == wanted_arrows, f"{page.arrows()} {page.fault()}\n  {wanted_arrows}")
+
+
+def try_again(trial, page, program):
+    page.draw(report_of(program, AGAIN), AGAIN)
+    trial.check("an Ack before what it acknowledges is said again: the client goes on past it", page.arrows() == AGAIN_ARROWS, f"{page.arrows()} {page.fault()}")
 
 
 def try_one_side(trial, page):
@@ -415,13 +484,12 @@ def try_page(trial, page, program):
 
 
 def committed():
-    """The scripts of the sessions that are committed, with their titles: of one that loses links at each place, the first and the last."""
+    """The scripts of the sessions that are committed, with their titles: of one that loses links at each place, some."""
     for path in sorted((TOP / "examples").glob("*.script")):
         yield path.name, path.read_text()
     for title, script in sessions.listed(""):
         texts = [] if script.unmodelled else [*script.texts()]
-        for text in texts[:1] + texts[1:][-1:]:
-            yield title, text
+        yield from ((title, text) for text in texts[::SHARE])
 
 
 def drawn_at_random(seed, count):
@@ -463,6 +531,8 @@ def try_all(trial, program, browser, picture, seed, count):
         page.picture_of_svg(picture)
     try_lost_link(trial, page, program)
     try_call(trial, page, program)
+    try_again(trial, page, program)
+    try_sizes(trial, page, program)
     try_silence(trial, page, program)
     try_one_side(trial, page)
     try_verdict(trial, page)
