@@ -33,6 +33,7 @@ VIEWER = TOP / "examples" / "viewer" / "index.html"
 OTHER = {"c": "s", "s": "c"}
 NAMES = {"c": "client", "s": "server"}
 WIDTH, HEIGHT = 1360, 900
+LINES, LETTERS = 60, 400  # that are shown of a session whose picture is wrong
 SHARE = 8  # of the places at which a session loses links, one of so many is drawn
 MOST_LINES = 400  # of a script that is drawn, since the model scans its lists again and again
 
@@ -207,7 +208,7 @@ class Viewer(Page):
 LOST_LINK = (TOP / "examples" / "lost-link.script").read_text()
 LOST_LINK_ARROWS = [
     ["handshake json 2", "control taken of-client"],
-    ["handshake ", "control taken of-server"],
+    ["handshake accepted", "control taken of-server"],
     ["1 a", "message taken of-client"],
     ["2 b", "message lost of-client"],
     ["Ack 1", "control taken of-server"],
@@ -217,7 +218,7 @@ LOST_LINK_ARROWS = [
 ACROSS = (TOP / "examples" / "a-call-across-links.script").read_text()
 ACROSS_ARROWS = [
     ["handshake json 2", "control taken of-client"],
-    ["handshake ", "control taken of-server"],
+    ["handshake accepted", "control taken of-server"],
     ["1 Sum #1", "message taken of-client"],
     ["2 item #2 20", "message taken of-client"],
     ["3 item #2 22", "message taken of-client"],
@@ -247,7 +248,7 @@ s write *
 """
 SILENCE_ARROWS = [
     ["handshake json 2", "control taken of-client"],
-    ["handshake ", "control taken of-server"],
+    ["handshake accepted", "control taken of-server"],
     ["Ping", "control taken of-client"],
     ["Ping", "control lost of-server"],
 ]
@@ -273,7 +274,7 @@ s read *
 """
 AGAIN_ARROWS = [
     ["handshake json 2", "control taken of-client"],
-    ["handshake ", "control taken of-server"],
+    ["handshake accepted", "control taken of-server"],
     ["1 a", "message taken of-client"],
     ["2 b", "message taken of-client"],
     ["Sequence 1", "control taken of-client"],
@@ -301,7 +302,7 @@ s lose
 """
 PACKED_ARROWS = [
     ["handshake messagepack 2", "control taken of-client"],
-    ["handshake ", "control taken of-server"],
+    ["handshake accepted", "control taken of-server"],
     ["1 a", "message taken of-client"],
 ]
 HANDSHAKE = b'{"protocol":"json","version":2}\x1e'.hex()
@@ -320,7 +321,7 @@ s lent {FIVE.encode().hex()}1e
 """
 ONE_SIDE_ARROWS = [
     ["handshake json 2", "control taken of-client"],
-    ["handshake ", "control taken of-server"],
+    ["handshake accepted", "control taken of-server"],
     ["1 Echo #7", "message taken of-client"],
     ["1 end #7 5", "message taken of-server"],
 ]
@@ -341,7 +342,7 @@ s lent {FIVE.encode().hex()}1e
 """
 BARE_ARROWS = [
     ["handshake json 2", "control taken of-client"],
-    ["handshake ", "control taken of-server"],
+    ["handshake accepted", "control taken of-server"],
     ["1 Echo #7", "message taken of-client"],
     ["1 end #7 5", "message taken of-server"],
     ["Sequence 1", "control taken of-server"],
@@ -411,7 +412,7 @@ def try_verdict(trial, page):
     lines = "trace json 2 on 1024 100000 32768\nc attach 0\nc lent 7b7d1e\ns lent 7b7d1e\nc took shaken\n"
     page.draw(lines, "line 3 breaks due\n")
     found = page.texts(".mark text"), page.arrows(), page.fault()
-    trial.check("a trace that breaks a rule: its line is marked", found == (["line 3 breaks due"], [["handshake ", "control waiting of-client"]], ""), found)
+    trial.check("a trace that breaks a rule: its line is marked", found == (["line 3 breaks due"], [["handshake accepted", "control waiting of-client"]], ""), found)
     page.draw(lines, "line 5 breaks link\n")
     said = "Line 4 of the trace: this end stands on no link: s lent 7b7d1e"
     trial.check("a trace that breaks a rule before the line that is named: that is said", page.fault() == said and not page.is_drawn(), page.fault())
@@ -469,6 +470,8 @@ def try_page(trial, page, program):
         page.value(f"(it => {{ it.value = '{place}'; it.dispatchEvent(new Event('change')); }})(document.getElementById('example'))")
         shown = page.value("['script', 'report'].map(it => document.getElementById(it).value)")
         trial.check(f"example {place} is that of examples/, with its report", shown == [text, report_of(program, text)], shown)
+    page.draw(report, LOST_LINK)
+    trial.check("texts of one's own are no example", page.value("document.getElementById('example').selectedIndex") == -1)
     grounds = []
     for scheme in "light", "dark":
         page.ask("Emulation.setEmulatedMedia", features=[{"name": "prefers-color-scheme", "value": scheme}])
@@ -521,7 +524,8 @@ def try_sessions(trial, page, program, listed):
     for title, text in listed:
         if text.count("\n") <= MOST_LINES:
             wrong = try_session(page, program, text)
-            trial.check(f"the picture of {title}", wrong is None, f"{wrong}\n{text}")
+            shown = [line[:LETTERS] for line in f"{wrong}\n{text}".splitlines()]
+            trial.check(f"the picture of {title}", wrong is None, "\n  ".join(shown[:LINES]))
 
 
 def try_all(trial, program, browser, picture, seed, count):
