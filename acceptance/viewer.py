@@ -402,6 +402,9 @@ def try_one_side(trial, page):
     page.draw(ONE_SIDE)
     trial.check("a trace of one end: what it was given came from the other", page.arrows() == ONE_SIDE_ARROWS, f"{page.arrows()} {page.fault()}")
     trial.check("a trace of one end: it has one link", (page.count(".link"), page.count(".link.torn")) == (1, 0), page.counts())
+    page.draw(f"{ONE_SIDE.splitlines()[0]}\nc attach 0\nc lent {HANDSHAKE}\n")
+    waits = [["handshake json 2", "control waiting of-client"]]
+    trial.check("a trace in which nobody was given anything: what was said isn't read yet", page.arrows() == waits, page.arrows())
     page.draw(BARE)
     trial.check("a recording without what was taken: a message that is said again is told from one that is new", page.arrows() == BARE_ARROWS, f"{page.arrows()} {page.fault()}")
     trial.check("a recording without what was taken: the server holds its answer", page.texts(".hold text") == ["1"], page.texts(".hold text"))
