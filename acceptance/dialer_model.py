@@ -493,6 +493,28 @@ def upgrades(s):
     s.next("at 1 quiet")
 
 
+    s.note("what came with the upgrade is heard before the wire is read, and so before its end: each message that is whole, and none that isn't")
+    items = [switching(), said(1, b"a"), said(2, b"bc")]
+    reads = [talk(*items), talk(*items)[:-1], talk(*items[:1])]
+    for piece in reads:
+        s.wire(0, [piece, "!"], FREE, items)
+    s.start([1])
+    for lane in range(1, 4):
+        s.ask(0, "GET", "/hub", Upgrade(KEY), lane=lane)
+    for lane in range(1, 4):
+        s.next(f"at 1 upgraded {lane}")
+    s.next("at 1 bytes 1 61")
+    s.next("at 1 bytes 2 61")
+    s.shuts(0)
+    s.next("at 1 lost 3")
+    s.next("at 1 bytes 1 6263")
+    s.next("at 1 quiet")
+    s.next("at 1 lost 2")
+    s.next("at 1 lost 1")
+    s.next("at 1 quiet")
+    s.shuts(3)
+
+
 def connected(s, moments, *wires, failing=(), names=()):
     """A dialer with a WebSocket on each wire: what its writes take after the ask, and then what its further reads give. The masks of the n-th are
     those of the seed of n. Until nothing more is heard it is at the first moment. Answers what was written on each wire."""

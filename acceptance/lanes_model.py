@@ -329,6 +329,11 @@ class Door:
             lane.has_unparsed = lane.has_unparsed or bool(piece)
         return self.look(lane)
 
+    def open(self, lane):
+        """The lane is a WebSocket. What came with its upgrade is heard before its wire is read."""
+        lane.socket = lane.filled = True
+        lane.wants_read = lane.came == lane.begin
+
     def hear_message(self, lane):
         if lane.wants_read:
             try:
@@ -386,7 +391,7 @@ class Door:
         elif heard[0] in ("request", "response"):
             event = f"{heard[0]} {lane.number} {heard[1]}"
         elif heard[0] == "upgraded":
-            lane.socket = lane.wants_read = lane.filled = True
+            self.open(lane)
             event = f"upgraded {lane.number}"
         elif heard[0] == "bytes":
             event = f"bytes {lane.number} {hexed(heard[1])}"
@@ -492,7 +497,7 @@ class Door:
             return
         self.add(lane, reply_text(status, kind, body, accept))
         if status == 101:
-            lane.socket = lane.wants_read = lane.filled = True
+            self.open(lane)
         else:
             lane.busy, lane.since = False, self.heard_at
         self.more(lane)

@@ -40,9 +40,23 @@ def by_hand(s):
     s.written(0, upgraded)
     s.flush()
     s.written(0, upgraded + bytes.fromhex("81037b7d1e"))
+    s.next("at 1000 quiet")
     s.next("at 1000 lost 0")
     s.written(0, upgraded + bytes.fromhex("81037b7d1e" "880203e8"))
     s.next("at 1000 quiet")
+
+    s.note("what came with the request for a socket is heard before the wire is read, and so before its end")
+    items = [upgrade("/hub"), message(1, b"a"), message(2, b"bc")]
+    s.wire(0, [talk(*items), "!"], FREE, items)
+    s.start([1])
+    s.next(f"at 1 request 0 GET /hub ? - {ACCEPT} kept -")
+    s.reply(0, 101, accept=ACCEPT)
+    s.next("at 1 bytes 0 61")
+    s.next("at 1 bytes 0 6263")
+    s.next("at 1 quiet")
+    s.shuts(0)
+    s.next("at 1 lost 0")
+    s.shuts(1)
 
     s.note("a head of forty headers and 3,000 bytes")
     headers = ["Connection: keep-alive"] + [f"X-{i:02}: {'a' * 60}" for i in range(38)]

@@ -59,9 +59,9 @@ sent_after lane sent (word ∷ given) = sent_after lane (after_given lane word s
 
 -- ---- what passed on a wire
 
--- A WebSocket was fed with what the requests leave of the bytes read, and its payloads are the messages heard. The bytes written, or that wait, are the
--- texts of the replies and then frames, of which the messages are those that were given, in order, but for those from a text on that was none; a close frame
--- is the last, and there is one only where it is gone.
+-- A WebSocket was fed with what the requests leave of the bytes read, and then with all others, and its payloads are the messages heard. The bytes written, or
+-- that wait, are the texts of the replies and then frames, of which the messages are those that were given, in order, but for those from a text on that was none;
+-- a close frame is the last, and there is one only where it is gone.
 pub record IsFramed (live : Bool) (came wrote : List ℕ) (requests : List Request) (payloads : List (List ℕ)) (given : List Sent) (replies : List Reply) (now : socket.Lane) : Type 0 where
   pub carried : IsCarried live came wrote (by_reply requests replies) payloads given now
   pub frames : List Frame

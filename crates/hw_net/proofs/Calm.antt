@@ -45,8 +45,14 @@ hears-after wire before mid after piece answer heard wants_read had_all h fed ke
     record { got = Some piece; read = read; is_input = input-of wire before mid after (answer ∷ []) heard into f; lost_bytes = same; breaks = λ e. absurd (cc (sym had_all ∙ e)) }
 
 -- the wire broke
-pub breaks-after : (wire : ℕ) (before : WebSocketState) (answer : Answer) → before.wants_read ≡ true → Reads wire PIECE answer None → HearsWebSocket wire before before (answer ∷ []) input.Broken
-breaks-after wire before answer wants_read h = record { got = None; read = last_read_was_full wire before answer None wants_read h; is_input = (inl refl, refl); lost_bytes = refl; breaks = λ e. refl }
+pub breaks-after : (wire : ℕ) (before : WebSocketState) (answer : Answer) → IsCalm before → Reads wire PIECE answer None → HearsWebSocket wire before before (answer ∷ []) input.Broken
+breaks-after wire before answer calm h = record {
+  got = None;
+  read = last_read_was_full wire before answer None calm.wants_read h;
+  is_input = (inl (refl, λ there. calm.waiting), refl);
+  lost_bytes = refl;
+  breaks = λ e. refl;
+}
 
 -- nothing came
 pub still-hears : (wire : ℕ) (websocket_state : WebSocketState) (answer : Answer) → IsCalm websocket_state → Reads wire PIECE answer (Some []) → HearsWebSocket wire websocket_state websocket_state (answer ∷ []) input.Nothing

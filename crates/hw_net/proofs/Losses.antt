@@ -5,6 +5,7 @@ use Rattle.hw_door.specs.declared.heard.Event.{Event}
 use Rattle.hw_door.specs.declared.heard.Event.TheVariants as event
 use Rattle.hw_door.specs.declared.heard.Heard.{Heard}
 use Rattle.hw_door.specs.Traffic.{Answer, ended, read_failed, bytes_out, write_failed, was_shut, read_on}
+use Rattle.hw_socket.specs.Lane as socket
 use Rattle.hw_socket.specs.Reading.{Feeds}
 use Rattle.hw_net.specs.declared.input.Input.{Input}
 use Rattle.hw_net.specs.declared.input.Input.TheVariants as input
@@ -14,12 +15,13 @@ use Rattle.hw_net.specs.declared.protocol.Stage.{Stage}
 use Rattle.hw_net.specs.declared.protocol.Stage.TheVariants.{Live, Lost, Closing, Over}
 use Rattle.hw_net.specs.Bounds.{has_wire}
 use Rattle.hw_net.specs.Door.{new_lane}
-use Rattle.hw_net.specs.Lane.{Lane, waits, is_live, owes, is_overdue, is_stalled, after_end, after_reply, protocol_after_shut, after_hearing}
+use Rattle.hw_net.specs.Lane.{Lane, waits, is_live, owes, is_overdue, is_stalled, after_end, after_reply, protocol_after_continue, protocol_after_shut, after_hearing}
 use Rattle.hw_net.specs.Saying.{Writes, WritesOut, DropsOrWrites, Says, SaysAt, SaysMore, GathersOrSays, must_end, has_closed_long, is_too_much}
 use Rattle.hw_net.specs.Sessions as session
-use Rattle.hw_net.specs.Sessions.{Call, Session, Does, answers_in, answers_of, broke_in, IsGone, IsSpoiled, IsLostRightly, LossesHaveCauses}
+use Rattle.hw_net.specs.Sessions.{Call, Session, Does, answers_in, answers_of, ended_in, failed_in, IsGone, IsSpoiled, IsHeardOut, IsLostRightly, LossesHaveCauses}
 use Rattle.hw_net.specs.ResponseState.{Fails, IsAnswered, IsBeginning}
 use Rattle.hw_net.specs.Trace.{Reads, Gives, Chooses}
+use Rattle.hw_net.specs.WebSocketState.{HasHeardAll}
 use Rattle.hw_net.specs.Turn.{Hears, Falls, Passes, Settles, Loses, LosesAt, TurnsLive, TurnsAt, Listens, Replies, Puts, PutsAt, Sends, Shuts}
 use Rattle.hw_net.proofs.Asked.{Silent, gives-bytes, live-reads, settles-silent, says-silent}
 use Rattle.hw_net.proofs.Bystanders.{SaysOrStays, Stays, gathered-says}
@@ -29,12 +31,12 @@ use Rattle.hw_net.proofs.Moves.{Has, contains-of}
 use Rattle.hw_net.proofs.Numbering.{replied-wire, put-wire}
 use Rattle.hw_net.proofs.Owed.{by-number}
 use Rattle.hw_net.proofs.Owning.{is_on, settles-keeps}
-use Rattle.hw_net.proofs.Shares.{share, broke-append, broke-share, read-share, same}
+use Rattle.hw_net.proofs.Shares.{share, ended-append, ended-share, failed-append, failed-share, read-share, same}
 use Rattle.hw_net.proofs.Walks.{IsHeard, Heeds, Moves, moves-wire, IsNew, IsUntouched, steps-in, each-before, mover, off-and-on}
 
--- the wire broke, or too much waits
+-- a write on the wire failed, or too much waits
 abbrev Cause : ℕ → List Answer → Lane → Type 0
-Cause wire answers lane = (broke_in wire answers ≡ true) ⊎ (is_too_much (length (waits lane)) ≡ true)
+Cause wire answers lane = (failed_in wire answers ≡ true) ⊎ (is_too_much (length (waits lane)) ≡ true)
 
 -- a lane that becomes lost does so for a cause
 abbrev Breaks : Lane → Lane → List Answer → Type 0
@@ -59,31 +61,31 @@ has-unlost Over e = refl
 
 -- ---- writing
 
-broke-here : (at wire : ℕ) → at ≡ wire → ((at == wire) || false) ≡ true
-broke-here at wire e = ap (λ n. (n == wire) || false) e ∙ ap (λ b. b || false) (same wire)
+named-here : (at wire : ℕ) → at ≡ wire → ((at == wire) || false) ≡ true
+named-here at wire e = ap (λ n. (n == wire) || false) e ∙ ap (λ b. b || false) (same wire)
 
-writes-broke : (wire : ℕ) (waits : List ℕ) (sent : List Answer) (left : List ℕ) → Writes wire waits sent left false → broke_in wire sent ≡ true
-writes-broke wire waits [] left h = absurd (cc h.2)
-writes-broke wire waits (bytes_out at [] ∷ []) left h = absurd (cc h.3)
-writes-broke wire waits (bytes_out at (b ∷ bs) ∷ answers) left h = writes-broke wire h.1.0 answers left h.1.2
-writes-broke wire waits (write_failed at ∷ []) left h = broke-here at wire h.0
-writes-broke wire waits _ left h = absurd h
+writes-failed : (wire : ℕ) (waits : List ℕ) (sent : List Answer) (left : List ℕ) → Writes wire waits sent left false → failed_in wire sent ≡ true
+writes-failed wire waits [] left h = absurd (cc h.2)
+writes-failed wire waits (bytes_out at [] ∷ []) left h = absurd (cc h.3)
+writes-failed wire waits (bytes_out at (b ∷ bs) ∷ answers) left h = writes-failed wire h.1.0 answers left h.1.2
+writes-failed wire waits (write_failed at ∷ []) left h = named-here at wire h.0
+writes-failed wire waits _ left h = absurd h
 
 writes-break : (x y : Lane) (mine : List Answer) → has_wire x.stage ≡ true → WritesOut x y mine → y.stage ≡ Lost → Cause x.wire mine y
 writes-break x y mine has w lost = go (must_end x.stage (length (waits y)) w.is_whole) refl where
-  whole : (b : Bool) → w.is_whole ≡ b → (not b || is_too_much (length (waits y))) ≡ true → broke_in x.wire mine ≡ broke_in x.wire (w.sent ++ was_shut x.wire ∷ []) → Cause x.wire mine y
+  whole : (b : Bool) → w.is_whole ≡ b → (not b || is_too_much (length (waits y))) ≡ true → failed_in x.wire mine ≡ failed_in x.wire (w.sent ++ was_shut x.wire ∷ []) → Cause x.wire mine y
   whole true e m f = inr m
-  whole false e m f = inl (f ∙ broke-append x.wire w.sent (was_shut x.wire ∷ [])
-      ∙ ap (λ b. b || false) (writes-broke x.wire (waits x) w.sent (waits y) (subst (λ b. Writes x.wire (waits x) w.sent (waits y) b) e w.writes)))
+  whole false e m f = inl (f ∙ failed-append x.wire w.sent (was_shut x.wire ∷ [])
+      ∙ ap (λ b. b || false) (writes-failed x.wire (waits x) w.sent (waits y) (subst (λ b. Writes x.wire (waits x) w.sent (waits y) b) e w.writes)))
 
-  by : (s : Stage) → y.stage ≡ after_end s → must_end s (length (waits y)) w.is_whole ≡ true → broke_in x.wire mine ≡ broke_in x.wire (w.sent ++ was_shut x.wire ∷ []) → Cause x.wire mine y
+  by : (s : Stage) → y.stage ≡ after_end s → must_end s (length (waits y)) w.is_whole ≡ true → failed_in x.wire mine ≡ failed_in x.wire (w.sent ++ was_shut x.wire ∷ []) → Cause x.wire mine y
   by Live e m f = whole w.is_whole refl m f
   by Lost e m f = absurd (cc m)
   by Closing e m f = unlost y.stage Over e refl lost
   by Over e m f = absurd (cc m)
 
   go : (b : Bool) → must_end x.stage (length (waits y)) w.is_whole ≡ b → Cause x.wire mine y
-  go true e = by x.stage (w.ends e).1 e (ap (λ l. broke_in x.wire l) (w.ends e).0)
+  go true e = by x.stage (w.ends e).1 e (ap (λ l. failed_in x.wire l) (w.ends e).0)
   go false e = unlost y.stage x.stage (w.stays e).1 (has-unlost x.stage has) lost
 
 -- a lane that closes is over after its wire was shut
@@ -137,15 +139,19 @@ settled-unlost now x after shut what trace live s = go what s where
   go input.Broken s = same-stage _ s.2 refl
   go input.Gone s = same-stage _ s.2 refl
 
-live-broke : (wire : ℕ) (answers read shut written : List Answer) → answers ≡ read ++ (shut ++ written) → (broke_in wire read || (broke_in wire shut || broke_in wire written)) ≡ broke_in wire answers
-live-broke wire answers read shut written all =
-    sym (ap (λ l. broke_in wire l) all ∙ broke-append wire read (shut ++ written) ∙ ap (λ b. broke_in wire read || b) (broke-append wire shut written))
+live-ended : (wire : ℕ) (answers read shut written : List Answer) → answers ≡ read ++ (shut ++ written) → (ended_in wire read || (ended_in wire shut || ended_in wire written)) ≡ ended_in wire answers
+live-ended wire answers read shut written all =
+    sym (ap (λ l. ended_in wire l) all ∙ ended-append wire read (shut ++ written) ∙ ap (λ b. ended_in wire read || b) (ended-append wire shut written))
 
-broke-written : (a b c d : Bool) → (a || (b || c)) ≡ d → c ≡ true → d ≡ true
-broke-written a b c d e f = sym e ∙ ap (λ k. a || (b || k)) f ∙ ap (λ k. a || k) (or-true b) ∙ or-true a
+live-failed : (wire : ℕ) (answers read shut written : List Answer) → answers ≡ read ++ (shut ++ written) → (failed_in wire read || (failed_in wire shut || failed_in wire written)) ≡ failed_in wire answers
+live-failed wire answers read shut written all =
+    sym (ap (λ l. failed_in wire l) all ∙ failed-append wire read (shut ++ written) ∙ ap (λ b. failed_in wire read || b) (failed-append wire shut written))
 
-broke-read : (a b c d : Bool) → (a || (b || c)) ≡ d → a ≡ true → d ≡ true
-broke-read a b c d e f = sym e ∙ ap (λ k. k || (b || c)) f
+or-last : (a b c d : Bool) → (a || (b || c)) ≡ d → c ≡ true → d ≡ true
+or-last a b c d e f = sym e ∙ ap (λ k. a || (b || k)) f ∙ ap (λ k. a || k) (or-true b) ∙ or-true a
+
+or-first : (a b c d : Bool) → (a || (b || c)) ≡ d → a ≡ true → d ≡ true
+or-first a b c d e f = sym e ∙ ap (λ k. k || (b || c)) f
 
 -- a lane that writes at the end of its turn and is lost then
 said-cause : (now : ℕ) (x y : Lane) (mine : List Answer) (own : Option Event) → x.stage ≡ Live → (h : TurnsLive now x y mine own) → h.said.stage ≡ Lost → Cause x.wire mine h.said
@@ -154,8 +160,8 @@ said-cause now x y mine own live h lost = go (says-break now h.settled h.said h.
   kept = (settles-keeps now (after_hearing h.protocol x) h.settled h.shut h.input h.trace h.settles).0.0
 
   go : Cause h.settled.wire h.written h.said ⊎ (h.said ≡ h.settled) → Cause x.wire mine h.said
-  go (inl (inl e)) = inl (broke-written (broke_in x.wire h.read) (broke_in x.wire h.shut) (broke_in x.wire h.written) (broke_in x.wire mine)
-      (live-broke x.wire mine h.read h.shut h.written h.all) (subst (λ n. broke_in n h.written ≡ true) kept e))
+  go (inl (inl e)) = inl (or-last (failed_in x.wire h.read) (failed_in x.wire h.shut) (failed_in x.wire h.written) (failed_in x.wire mine)
+      (live-failed x.wire mine h.read h.shut h.written h.all) (subst (λ n. failed_in n h.written ≡ true) kept e))
   go (inl (inr e)) = inr e
   go (inr e) = unlost h.said.stage h.settled.stage (ap (λ (l : Lane). l.stage) e) (settled-unlost now (after_hearing h.protocol x) h.settled h.shut h.input h.trace live h.settles) lost
 
@@ -233,15 +239,21 @@ moves-break (session.shut at answers) x y h =
     by-number at (Shuts h.0) x y (share x.wire answers) (λ b. Breaks x y (share x.wire answers)) (shuts-break h.0 x y (share x.wire answers)) (λ e f lost. inr e) h.1
 moves-break (session.wrote at answers) x y h = bystander-break 0 x y (share x.wire answers) h
 
-broke-more : (wire : ℕ) (calls : List Call) (call : Call) → broke_in wire (answers_of (call ∷ calls)) ≡ (broke_in wire (answers_of calls) || broke_in wire (share wire (answers_in call)))
-broke-more wire calls call = broke-append wire (answers_of calls) (answers_in call) ∙ ap (λ b. broke_in wire (answers_of calls) || b) (broke-share wire (answers_in call))
+failed-more : (wire : ℕ) (calls : List Call) (call : Call) → failed_in wire (answers_of (call ∷ calls)) ≡ (failed_in wire (answers_of calls) || failed_in wire (share wire (answers_in call)))
+failed-more wire calls call = failed-append wire (answers_of calls) (answers_in call) ∙ ap (λ b. failed_in wire (answers_of calls) || b) (failed-share wire (answers_in call))
 
--- what broke in this call, or before it, broke
-broke-now : (wire : ℕ) (calls : List Call) (call : Call) → broke_in wire (share wire (answers_in call)) ≡ true → broke_in wire (answers_of (call ∷ calls)) ≡ true
-broke-now wire calls call e = broke-more wire calls call ∙ ap (λ b. broke_in wire (answers_of calls) || b) e ∙ or-true (broke_in wire (answers_of calls))
+-- what failed in this call, or before it, failed
+failed-now : (wire : ℕ) (calls : List Call) (call : Call) → failed_in wire (share wire (answers_in call)) ≡ true → failed_in wire (answers_of (call ∷ calls)) ≡ true
+failed-now wire calls call e = failed-more wire calls call ∙ ap (λ b. failed_in wire (answers_of calls) || b) e ∙ or-true (failed_in wire (answers_of calls))
 
-broke-before : (wire : ℕ) (calls : List Call) (call : Call) → broke_in wire (answers_of calls) ≡ true → broke_in wire (answers_of (call ∷ calls)) ≡ true
-broke-before wire calls call e = broke-more wire calls call ∙ ap (λ b. b || broke_in wire (share wire (answers_in call))) e
+failed-before : (wire : ℕ) (calls : List Call) (call : Call) → failed_in wire (answers_of calls) ≡ true → failed_in wire (answers_of (call ∷ calls)) ≡ true
+failed-before wire calls call e = failed-more wire calls call ∙ ap (λ b. b || failed_in wire (share wire (answers_in call))) e
+
+-- what ended in this call ended
+ended-now : (wire : ℕ) (calls : List Call) (call : Call) → ended_in wire (share wire (answers_in call)) ≡ true → ended_in wire (answers_of (call ∷ calls)) ≡ true
+ended-now wire calls call e =
+    ended-append wire (answers_of calls) (answers_in call) ∙ ap (λ b. ended_in wire (answers_of calls) || b) (ended-share wire (answers_in call) ∙ e)
+    ∙ or-true (ended_in wire (answers_of calls))
 
 abbrev pub IsCaused : List Call → Lane → Type 0
 IsCaused calls lane = lane.stage ≡ Lost → Cause lane.wire (answers_of calls) lane
@@ -249,11 +261,11 @@ IsCaused calls lane = lane.stage ≡ Lost → Cause lane.wire (answers_of calls)
 pub step-caused : (call : Call) (calls : List Call) (x y : Lane) → IsCaused calls x → Moves call x y → IsCaused (call ∷ calls) y
 step-caused call calls x y k h lost = subst (λ n. Cause n (answers_of (call ∷ calls)) y) (sym (moves-wire call x y h)) (go (moves-break call x y h lost)) where
   before : Cause x.wire (answers_of calls) x → y ≡ x → Cause x.wire (answers_of (call ∷ calls)) y
-  before (inl e) f = inl (broke-before x.wire calls call e)
+  before (inl e) f = inl (failed-before x.wire calls call e)
   before (inr e) f = inr (ap (λ (l : Lane). is_too_much (length (waits l))) f ∙ e)
 
   go : Cause x.wire (share x.wire (answers_in call)) y ⊎ (y ≡ x) → Cause x.wire (answers_of (call ∷ calls)) y
-  go (inl (inl e)) = inl (broke-now x.wire calls call e)
+  go (inl (inl e)) = inl (failed-now x.wire calls call e)
   go (inl (inr e)) = inr e
   go (inr f) = before (k (sym (ap (λ (l : Lane). l.stage) f) ∙ lost)) f
 
@@ -262,15 +274,15 @@ new-caused calls now wire h lost = unlost Live Live refl refl lost
 
 -- ---- the loss that is heard
 
-reads-broke : (wire room : ℕ) (answer : Answer) → Reads wire room answer None → broke_in wire (answer ∷ []) ≡ true
-reads-broke wire room (ended at) h = broke-here at wire h
-reads-broke wire room (read_failed at) h = broke-here at wire h
-reads-broke wire room _ h = absurd h
+reads-ended : (wire room : ℕ) (answer : Answer) → Reads wire room answer None → ended_in wire (answer ∷ []) ≡ true
+reads-ended wire room (ended at) h = named-here at wire h
+reads-ended wire room (read_failed at) h = named-here at wire h
+reads-ended wire room _ h = absurd h
 
-gives-broke : (wire room : ℕ) (answers : List Answer) (got : Option (List ℕ)) → got ≡ None → Gives wire room answers got → broke_in wire answers ≡ true
-gives-broke wire room [] got e h = absurd (cc (sym h ∙ e))
-gives-broke wire room (answer ∷ []) got e h = reads-broke wire room answer (subst (λ (o : Option (List ℕ)). Reads wire room answer o) e h.1)
-gives-broke wire room (answer ∷ next ∷ more) got e h = absurd h
+gives-ended : (wire room : ℕ) (answers : List Answer) (got : Option (List ℕ)) → got ≡ None → Gives wire room answers got → ended_in wire answers ≡ true
+gives-ended wire room [] got e h = absurd (cc (sym h ∙ e))
+gives-ended wire room (answer ∷ []) got e h = reads-ended wire room answer (subst (λ (o : Option (List ℕ)). Reads wire room answer o) e h.1)
+gives-ended wire room (answer ∷ next ∷ more) got e h = absurd h
 
 -- the loss of a lane is told
 abbrev is_loss : Option Event → Bool
@@ -289,19 +301,24 @@ over-said now after said y written o s last = go after.stage o s where
 -- what the lane shows, of which this was the protocol before
 abbrev ShowsOf : ℕ → Protocol → List Answer → Lane → ℕ → Type 0
 ShowsOf wire old mine y now =
-    (broke_in wire mine ≡ true) ⊎ ((is_overdue now y ≡ true) ⊎ ((is_too_much (length (waits y)) ≡ true) ⊎ (IsGone (read_on wire mine) old ⊎ IsSpoiled old)))
+    ((ended_in wire mine ≡ true) × IsHeardOut y.protocol)
+    ⊎ ((failed_in wire mine ≡ true) ⊎ ((is_overdue now y ≡ true) ⊎ ((is_too_much (length (waits y)) ≡ true) ⊎ (IsGone (read_on wire mine) old ⊎ IsSpoiled old))))
 
 -- the loss is that of the input
 input-shows : (now wire : ℕ) (x : Lane) (protocol : Protocol) (after y : Lane) (mine read shut : List Answer) (what : Input) (trace : Option Event) → is_loss trace ≡ true → Hears wire x.protocol protocol read what →
-    Settles now (after_hearing protocol x) after shut what trace → (broke_in wire read ≡ true → broke_in wire mine ≡ true) → read_on wire mine ≡ read_on wire read → (after.stage ≡ Over → y ≡ after) →
+    Settles now (after_hearing protocol x) after shut what trace → (ended_in wire read ≡ true → ended_in wire mine ≡ true) → read_on wire mine ≡ read_on wire read → (after.stage ≡ Over → y ≡ after) →
     ShowsOf wire x.protocol mine y now
-input-shows now wire x protocol after y mine read shut what trace loss h s broke same_read last = go x.protocol protocol what h s where
+input-shows now wire x protocol after y mine read shut what trace loss h s ended_too same_read last = go x.protocol protocol what h s where
   never : {A : Type 0} (o : Option Event) → trace ≡ o → is_loss o ≡ false → A
   never o e f = absurd (cc (sym f ∙ sym (ap is_loss e) ∙ loss))
 
   nothing : (old new : Protocol) (b : Bool) → is_overdue now (after_hearing new x) ≡ b → Chooses b (Falls (after_hearing new x) after shut trace) (Passes (after_hearing new x) after shut None trace) → ShowsOf wire old mine y now
-  nothing old new true e f = inr (inl (ap (λ (l : Lane). is_overdue now l) (last (ap (λ (l : Lane). l.stage) f.2) ∙ f.2) ∙ e))
+  nothing old new true e f = inr (inr (inl (ap (λ (l : Lane). is_overdue now l) (last (ap (λ (l : Lane). l.stage) f.2) ∙ f.2) ∙ e)))
   nothing old new false e f = never None f.1 refl
+
+  -- a read found the wire's end, after which the lane is as it was, but that it is over
+  finished : (old new : Protocol) → ended_in wire read ≡ true → IsHeardOut (protocol_after_continue new) → Falls (after_hearing new x) after shut trace → ShowsOf wire old mine y now
+  finished old new e heard f = inl (ended_too e, subst (λ (l : Lane). IsHeardOut l.protocol) (sym (last (ap (λ (l : Lane). l.stage) f.2) ∙ f.2)) heard)
 
   go : (old new : Protocol) (what : Input) → Hears wire old new read what → Settles now (after_hearing new x) after shut what trace → ShowsOf wire old mine y now
   go old new input.Nothing h s = nothing old new (is_overdue now (after_hearing new x)) refl s
@@ -310,15 +327,15 @@ input-shows now wire x protocol after y mine read shut what trace loss h s broke
   go old new (input.Response status body) h s = never _ s.1 refl
   go old new input.Upgraded h s = never _ s.1 refl
   go old new (input.Message bytes) h s = never _ s.1 refl
-  go (Http old) (Http new) input.Broken h s = inl (broke (gives-broke wire _ read h.got h.is_input.0 h.read))
+  go (Http old) (Http new) input.Broken h s = finished (Http old) (Http new) (gives-ended wire _ read h.got h.is_input.0 h.read) tt s
   go (Response old) (Response new) input.Broken h s = by h.is_input where
     by : ((h.got ≡ None) × (old.concluded ≡ false → IsBeginning old.lane.held)) ⊎ IsAnswered old new h.got input.Broken → ShowsOf wire (Response old) mine y now
-    by (inl e) = inl (broke (gives-broke wire _ read h.got e.0 h.read))
-    by (inr k) = inr (inr (inr (inl (k.0, subst (λ (l : List ℕ). Fails old.upgrade (old.lane.held ++ l)) (sym (same_read ∙ gives-bytes wire _ read h.got h.read)) k.3))))
+    by (inl e) = finished (Response old) (Response new) (gives-ended wire _ read h.got e.0 h.read) tt s
+    by (inr k) = inr (inr (inr (inr (inl (k.0, subst (λ (l : List ℕ). Fails old.upgrade (old.lane.held ++ l)) (sym (same_read ∙ gives-bytes wire _ read h.got h.read)) k.3)))))
   go (Socket old) (Socket new) input.Broken h s = by h.is_input.0 where
-    by : (h.got ≡ None) ⊎ (old.lost_bytes ≡ true) → ShowsOf wire (Socket old) mine y now
-    by (inl e) = inl (broke (gives-broke wire _ read h.got e h.read))
-    by (inr e) = inr (inr (inr (inr e)))
+    by : ((h.got ≡ None) × HasHeardAll old.lane) ⊎ ((old.lost_bytes ≡ true) × (h.got ≡ Some [])) → ShowsOf wire (Socket old) mine y now
+    by (inl e) = finished (Socket old) (Socket new) (gives-ended wire _ read h.got e.0 h.read) (subst (λ (l : socket.Lane). HasHeardAll l) (sym h.is_input.1) e.1) s
+    by (inr e) = inr (inr (inr (inr (inr e.0))))
   go (Http old) (Socket new) input.Broken h s = absurd h
   go (Socket old) (Http new) input.Broken h s = absurd h
   go (Response old) (Http new) input.Broken h s = absurd h
@@ -329,12 +346,12 @@ input-shows now wire x protocol after y mine read shut what trace loss h s broke
   go (Response old) (Response new) input.Gone h s = absurd h.is_input
   go (Socket old) (Socket new) input.Gone h s =
       let gets = h.is_input.0 in
-      inr (inr (inr (inl (
+      inr (inr (inr (inr (inl (
         gets.1.0,
         new.lane,
         subst (λ (l : List ℕ). Feeds old.lane l gets.1.0) (sym (same_read ∙ gives-bytes wire _ read h.got h.read)) gets.1.1,
         gets.1.2,
-      ))))
+      )))))
   go (Http old) (Socket new) input.Gone h s = absurd h
   go (Socket old) (Http new) input.Gone h s = absurd h
   go (Response old) (Http new) input.Gone h s = absurd h
@@ -354,8 +371,8 @@ live-shows now x y mine own live loss h = go h.trace refl h.loses where
   never e = absurd (cc (sym (ap is_loss e) ∙ loss))
 
   by : y ≡ record h.said { stage = Over } → Cause x.wire mine h.said → ShowsOf x.wire x.protocol mine y now
-  by e (inl b) = inl b
-  by e (inr m) = inr (inr (inl (ap (λ (l : Lane). is_too_much (length (waits l))) e ∙ m)))
+  by e (inl b) = inr (inl b)
+  by e (inr m) = inr (inr (inr (inl (ap (λ (l : Lane). is_too_much (length (waits l))) e ∙ m))))
 
   at : (s : Stage) → h.said.stage ≡ s → LosesAt s h.said y own → ShowsOf x.wire x.protocol mine y now
   at Live e k = never k.0
@@ -366,7 +383,7 @@ live-shows now x y mine own live loss h = go h.trace refl h.loses where
   go : (trace : Option Event) → h.trace ≡ trace → Loses trace h.said y own → ShowsOf x.wire x.protocol mine y now
   go (Some here) e k =
       input-shows now x.wire x h.protocol h.settled y mine h.read h.shut h.input h.trace (ap is_loss (e ∙ sym k.0) ∙ loss) h.hears h.settles
-      (broke-read (broke_in x.wire h.read) (broke_in x.wire h.shut) (broke_in x.wire h.written) (broke_in x.wire mine) (live-broke x.wire mine h.read h.shut h.written h.all))
+      (or-first (ended_in x.wire h.read) (ended_in x.wire h.shut) (ended_in x.wire h.written) (ended_in x.wire mine) (live-ended x.wire mine h.read h.shut h.written h.all))
       (live-reads x.wire mine h.read h.shut h.written h.all (settled.0 x.wire) (said.0 x.wire))
       (λ o. over-said now h.settled h.said y h.written o h.says k.1)
   go None e k = at h.said.stage refl k
@@ -409,30 +426,42 @@ pub loss-cause : (now : ℕ) (what : Heard) (answers : List Answer) (calls : Lis
     ((lane : Lane) × Contains after lane × (lane.wire ≡ x.wire) × IsLostRightly now (answers_of (session.heard what answers ∷ calls)) lane)
     ⊎ ((lane : Lane) × Contains before lane × (lane.wire ≡ x.wire) × (IsGone (read_on x.wire answers) lane.protocol ⊎ IsSpoiled lane.protocol))
 loss-cause now what answers calls x y before after bound has wire were caused h = go h where
-  broke : broke_in x.wire (answers_of (session.heard what answers ∷ calls)) ≡ true →
-      (lane : Lane) × Contains after lane × (lane.wire ≡ x.wire) × IsLostRightly now (answers_of (session.heard what answers ∷ calls)) lane
-  broke e = (y, contains-of after y has, wire, inl (subst (λ n. broke_in n (answers_of (session.heard what answers ∷ calls)) ≡ true) (sym wire) e))
+  call : Call
+  call = session.heard what answers
 
-  much : is_too_much (length (waits y)) ≡ true → (lane : Lane) × Contains after lane × (lane.wire ≡ x.wire) × IsLostRightly now (answers_of (session.heard what answers ∷ calls)) lane
-  much e = (y, contains-of after y has, wire, inr (inr (inr e)))
+  all : List Answer
+  all = answers_of (call ∷ calls)
 
-  ended : IsGone (read_on x.wire (share x.wire answers)) x.protocol ⊎ IsSpoiled x.protocol → Has before x ⊎ IsNew bound x →
+  lost : IsLostRightly now all y → (lane : Lane) × Contains after lane × (lane.wire ≡ x.wire) × IsLostRightly now all lane
+  lost right = (y, contains-of after y has, wire, right)
+
+  finished : ended_in x.wire all ≡ true → IsHeardOut y.protocol → (lane : Lane) × Contains after lane × (lane.wire ≡ x.wire) × IsLostRightly now all lane
+  finished e heard = lost (inl (subst (λ n. ended_in n all ≡ true) (sym wire) e, heard))
+
+  failed : failed_in x.wire all ≡ true → (lane : Lane) × Contains after lane × (lane.wire ≡ x.wire) × IsLostRightly now all lane
+  failed e = lost (inr (inl (subst (λ n. failed_in n all ≡ true) (sym wire) e)))
+
+  much : is_too_much (length (waits y)) ≡ true → (lane : Lane) × Contains after lane × (lane.wire ≡ x.wire) × IsLostRightly now all lane
+  much e = lost (inr (inr (inr (inr e))))
+
+  gone : IsGone (read_on x.wire (share x.wire answers)) x.protocol ⊎ IsSpoiled x.protocol → Has before x ⊎ IsNew bound x →
       (lane : Lane) × Contains before lane × (lane.wire ≡ x.wire) × (IsGone (read_on x.wire answers) lane.protocol ⊎ IsSpoiled lane.protocol)
-  ended g (inl k) = (x, contains-of before x k, refl, subst (λ (l : List ℕ). IsGone l x.protocol ⊎ IsSpoiled x.protocol) (sym (read-share x.wire answers)) g)
-  ended g (inr n) = absurd (new-protocol bound x (read_on x.wire (share x.wire answers)) n g)
+  gone g (inl k) = (x, contains-of before x k, refl, subst (λ (l : List ℕ). IsGone l x.protocol ⊎ IsSpoiled x.protocol) (sym (read-share x.wire answers)) g)
+  gone g (inr n) = absurd (new-protocol bound x (read_on x.wire (share x.wire answers)) n g)
 
-  earlier : waits y ≡ waits x → Cause x.wire (answers_of calls) x → (lane : Lane) × Contains after lane × (lane.wire ≡ x.wire) × IsLostRightly now (answers_of (session.heard what answers ∷ calls)) lane
-  earlier e (inl b) = broke (broke-before x.wire calls (session.heard what answers) b)
+  earlier : waits y ≡ waits x → Cause x.wire (answers_of calls) x → (lane : Lane) × Contains after lane × (lane.wire ≡ x.wire) × IsLostRightly now all lane
+  earlier e (inl b) = failed (failed-before x.wire calls call b)
   earlier e (inr m) = much (ap (λ l. is_too_much (length l)) e ∙ m)
 
   go : Heard-loss now x y (share x.wire answers) →
-      ((lane : Lane) × Contains after lane × (lane.wire ≡ x.wire) × IsLostRightly now (answers_of (session.heard what answers ∷ calls)) lane)
+      ((lane : Lane) × Contains after lane × (lane.wire ≡ x.wire) × IsLostRightly now all lane)
       ⊎ ((lane : Lane) × Contains before lane × (lane.wire ≡ x.wire) × (IsGone (read_on x.wire answers) lane.protocol ⊎ IsSpoiled lane.protocol))
-  go (inl (inl e)) = inl (broke (broke-now x.wire calls (session.heard what answers) e))
-  go (inl (inr (inl e))) = inl (y, contains-of after y has, wire, inr (inl e))
-  go (inl (inr (inr (inl e)))) = inl (much e)
-  go (inl (inr (inr (inr g)))) = inr (ended g were)
-  go (inr (inl e)) = inl (y, contains-of after y has, wire, inr (inr (inl e)))
+  go (inl (inl e)) = inl (finished (ended-now x.wire calls call e.0) e.1)
+  go (inl (inr (inl e))) = inl (failed (failed-now x.wire calls call e))
+  go (inl (inr (inr (inl e)))) = inl (lost (inr (inr (inl e))))
+  go (inl (inr (inr (inr (inl e))))) = inl (much e)
+  go (inl (inr (inr (inr (inr g))))) = inr (gone g were)
+  go (inr (inl e)) = inl (lost (inr (inr (inr (inl e)))))
   go (inr (inr k)) = inl (earlier k.1 (caused k.0))
 
 pub losses-have-causes : LossesHaveCauses

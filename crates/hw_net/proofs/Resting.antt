@@ -132,7 +132,7 @@ socket-still lane websocket_state is sound asleep there written =
       last_read_was_full = less;
       whole = whole;
       there = unended;
-      waiting = sound wants less whole unended;
+      waiting = sound wants whole unended;
       written = written;
     } in
     let same : after_hearing (Socket websocket_state) lane ≡ lane = ap (λ (p : Protocol). record lane { protocol = p }) (sym is) in

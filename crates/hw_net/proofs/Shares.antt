@@ -1,7 +1,7 @@
 -- A lane's share of what the wires answer: the answers about its wire.
 use Rattle.std.proofs.Common.{◌≡◌, ◌==◌, ◌||◌, ◌++◌, ◌∷◌, [], ℕ, Bool, true, false, List, None, Some, refl, sym, ap, ◌∙◌, arith, append_assoc, if◌then◌else◌}
 use Rattle.hw_door.specs.Traffic.{Answer, polled, poll_failed, accepted, accept_failed, connected, connect_failed, bytes_in, not_yet, ended, read_failed, bytes_out, write_failed, was_shut, none_ready, read_on, written_on}
-use Rattle.hw_net.specs.Sessions.{is_about, was_shut_in, broke_in, came_in}
+use Rattle.hw_net.specs.Sessions.{is_about, was_shut_in, ended_in, failed_in, came_in}
 
 abbrev pub share : ℕ → List Answer → List Answer
 share wire [] = []
@@ -250,59 +250,113 @@ shut-append w (write_failed at ∷ xs) ys = shut-append w xs ys
 shut-append w (was_shut at ∷ xs) ys = either (at == w) (was_shut_in w (xs ++ ys)) (was_shut_in w xs) (was_shut_in w ys) (shut-append w xs ys)
 shut-append w (none_ready ∷ xs) ys = shut-append w xs ys
 
--- ---- broke
+-- ---- ended
 
-pub broke-skip : (w : ℕ) (a : Answer) (xs : List Answer) → is_about w a ≡ false → broke_in w (a ∷ xs) ≡ broke_in w xs
-broke-skip w (polled wait now) xs e = refl
-broke-skip w (poll_failed wait) xs e = refl
-broke-skip w (accepted wire) xs e = refl
-broke-skip w accept_failed xs e = refl
-broke-skip w (connected wire) xs e = refl
-broke-skip w connect_failed xs e = refl
-broke-skip w (bytes_in at bytes) xs e = refl
-broke-skip w (not_yet at) xs e = refl
-broke-skip w (ended at) xs e = rw e refl
-broke-skip w (read_failed at) xs e = rw e refl
-broke-skip w (bytes_out at bytes) xs e = refl
-broke-skip w (write_failed at) xs e = rw e refl
-broke-skip w (was_shut at) xs e = refl
-broke-skip w none_ready xs e = refl
+pub ended-skip : (w : ℕ) (a : Answer) (xs : List Answer) → is_about w a ≡ false → ended_in w (a ∷ xs) ≡ ended_in w xs
+ended-skip w (polled wait now) xs e = refl
+ended-skip w (poll_failed wait) xs e = refl
+ended-skip w (accepted wire) xs e = refl
+ended-skip w accept_failed xs e = refl
+ended-skip w (connected wire) xs e = refl
+ended-skip w connect_failed xs e = refl
+ended-skip w (bytes_in at bytes) xs e = refl
+ended-skip w (not_yet at) xs e = refl
+ended-skip w (ended at) xs e = rw e refl
+ended-skip w (read_failed at) xs e = rw e refl
+ended-skip w (bytes_out at bytes) xs e = refl
+ended-skip w (write_failed at) xs e = refl
+ended-skip w (was_shut at) xs e = refl
+ended-skip w none_ready xs e = refl
 
-broke-both : (w : ℕ) (a : Answer) (xs ys : List Answer) → broke_in w xs ≡ broke_in w ys → broke_in w (a ∷ xs) ≡ broke_in w (a ∷ ys)
-broke-both w (polled wait now) xs ys e = e
-broke-both w (poll_failed wait) xs ys e = e
-broke-both w (accepted wire) xs ys e = e
-broke-both w accept_failed xs ys e = e
-broke-both w (connected wire) xs ys e = e
-broke-both w connect_failed xs ys e = e
-broke-both w (bytes_in at bytes) xs ys e = e
-broke-both w (not_yet at) xs ys e = e
-broke-both w (ended at) xs ys e = ap (λ l. (at == w) || l) e
-broke-both w (read_failed at) xs ys e = ap (λ l. (at == w) || l) e
-broke-both w (bytes_out at bytes) xs ys e = e
-broke-both w (write_failed at) xs ys e = ap (λ l. (at == w) || l) e
-broke-both w (was_shut at) xs ys e = e
-broke-both w none_ready xs ys e = e
+ended-both : (w : ℕ) (a : Answer) (xs ys : List Answer) → ended_in w xs ≡ ended_in w ys → ended_in w (a ∷ xs) ≡ ended_in w (a ∷ ys)
+ended-both w (polled wait now) xs ys e = e
+ended-both w (poll_failed wait) xs ys e = e
+ended-both w (accepted wire) xs ys e = e
+ended-both w accept_failed xs ys e = e
+ended-both w (connected wire) xs ys e = e
+ended-both w connect_failed xs ys e = e
+ended-both w (bytes_in at bytes) xs ys e = e
+ended-both w (not_yet at) xs ys e = e
+ended-both w (ended at) xs ys e = ap (λ l. (at == w) || l) e
+ended-both w (read_failed at) xs ys e = ap (λ l. (at == w) || l) e
+ended-both w (bytes_out at bytes) xs ys e = e
+ended-both w (write_failed at) xs ys e = e
+ended-both w (was_shut at) xs ys e = e
+ended-both w none_ready xs ys e = e
 
-pub broke-share : (w : ℕ) (xs : List Answer) → broke_in w xs ≡ broke_in w (share w xs)
-broke-share w xs = same-share (broke_in w) w (broke-skip w) (broke-both w) xs
+pub ended-share : (w : ℕ) (xs : List Answer) → ended_in w xs ≡ ended_in w (share w xs)
+ended-share w xs = same-share (ended_in w) w (ended-skip w) (ended-both w) xs
 
-pub broke-append : (w : ℕ) (xs ys : List Answer) → broke_in w (xs ++ ys) ≡ (broke_in w xs || broke_in w ys)
-broke-append w [] ys = refl
-broke-append w (polled wait now ∷ xs) ys = broke-append w xs ys
-broke-append w (poll_failed wait ∷ xs) ys = broke-append w xs ys
-broke-append w (accepted wire ∷ xs) ys = broke-append w xs ys
-broke-append w (accept_failed ∷ xs) ys = broke-append w xs ys
-broke-append w (connected wire ∷ xs) ys = broke-append w xs ys
-broke-append w (connect_failed ∷ xs) ys = broke-append w xs ys
-broke-append w (bytes_in at bytes ∷ xs) ys = broke-append w xs ys
-broke-append w (not_yet at ∷ xs) ys = broke-append w xs ys
-broke-append w (ended at ∷ xs) ys = either (at == w) (broke_in w (xs ++ ys)) (broke_in w xs) (broke_in w ys) (broke-append w xs ys)
-broke-append w (read_failed at ∷ xs) ys = either (at == w) (broke_in w (xs ++ ys)) (broke_in w xs) (broke_in w ys) (broke-append w xs ys)
-broke-append w (bytes_out at bytes ∷ xs) ys = broke-append w xs ys
-broke-append w (write_failed at ∷ xs) ys = either (at == w) (broke_in w (xs ++ ys)) (broke_in w xs) (broke_in w ys) (broke-append w xs ys)
-broke-append w (was_shut at ∷ xs) ys = broke-append w xs ys
-broke-append w (none_ready ∷ xs) ys = broke-append w xs ys
+pub ended-append : (w : ℕ) (xs ys : List Answer) → ended_in w (xs ++ ys) ≡ (ended_in w xs || ended_in w ys)
+ended-append w [] ys = refl
+ended-append w (polled wait now ∷ xs) ys = ended-append w xs ys
+ended-append w (poll_failed wait ∷ xs) ys = ended-append w xs ys
+ended-append w (accepted wire ∷ xs) ys = ended-append w xs ys
+ended-append w (accept_failed ∷ xs) ys = ended-append w xs ys
+ended-append w (connected wire ∷ xs) ys = ended-append w xs ys
+ended-append w (connect_failed ∷ xs) ys = ended-append w xs ys
+ended-append w (bytes_in at bytes ∷ xs) ys = ended-append w xs ys
+ended-append w (not_yet at ∷ xs) ys = ended-append w xs ys
+ended-append w (ended at ∷ xs) ys = either (at == w) (ended_in w (xs ++ ys)) (ended_in w xs) (ended_in w ys) (ended-append w xs ys)
+ended-append w (read_failed at ∷ xs) ys = either (at == w) (ended_in w (xs ++ ys)) (ended_in w xs) (ended_in w ys) (ended-append w xs ys)
+ended-append w (bytes_out at bytes ∷ xs) ys = ended-append w xs ys
+ended-append w (write_failed at ∷ xs) ys = ended-append w xs ys
+ended-append w (was_shut at ∷ xs) ys = ended-append w xs ys
+ended-append w (none_ready ∷ xs) ys = ended-append w xs ys
+
+-- ---- failed to write
+
+pub failed-skip : (w : ℕ) (a : Answer) (xs : List Answer) → is_about w a ≡ false → failed_in w (a ∷ xs) ≡ failed_in w xs
+failed-skip w (polled wait now) xs e = refl
+failed-skip w (poll_failed wait) xs e = refl
+failed-skip w (accepted wire) xs e = refl
+failed-skip w accept_failed xs e = refl
+failed-skip w (connected wire) xs e = refl
+failed-skip w connect_failed xs e = refl
+failed-skip w (bytes_in at bytes) xs e = refl
+failed-skip w (not_yet at) xs e = refl
+failed-skip w (ended at) xs e = refl
+failed-skip w (read_failed at) xs e = refl
+failed-skip w (bytes_out at bytes) xs e = refl
+failed-skip w (write_failed at) xs e = rw e refl
+failed-skip w (was_shut at) xs e = refl
+failed-skip w none_ready xs e = refl
+
+failed-both : (w : ℕ) (a : Answer) (xs ys : List Answer) → failed_in w xs ≡ failed_in w ys → failed_in w (a ∷ xs) ≡ failed_in w (a ∷ ys)
+failed-both w (polled wait now) xs ys e = e
+failed-both w (poll_failed wait) xs ys e = e
+failed-both w (accepted wire) xs ys e = e
+failed-both w accept_failed xs ys e = e
+failed-both w (connected wire) xs ys e = e
+failed-both w connect_failed xs ys e = e
+failed-both w (bytes_in at bytes) xs ys e = e
+failed-both w (not_yet at) xs ys e = e
+failed-both w (ended at) xs ys e = e
+failed-both w (read_failed at) xs ys e = e
+failed-both w (bytes_out at bytes) xs ys e = e
+failed-both w (write_failed at) xs ys e = ap (λ l. (at == w) || l) e
+failed-both w (was_shut at) xs ys e = e
+failed-both w none_ready xs ys e = e
+
+pub failed-share : (w : ℕ) (xs : List Answer) → failed_in w xs ≡ failed_in w (share w xs)
+failed-share w xs = same-share (failed_in w) w (failed-skip w) (failed-both w) xs
+
+pub failed-append : (w : ℕ) (xs ys : List Answer) → failed_in w (xs ++ ys) ≡ (failed_in w xs || failed_in w ys)
+failed-append w [] ys = refl
+failed-append w (polled wait now ∷ xs) ys = failed-append w xs ys
+failed-append w (poll_failed wait ∷ xs) ys = failed-append w xs ys
+failed-append w (accepted wire ∷ xs) ys = failed-append w xs ys
+failed-append w (accept_failed ∷ xs) ys = failed-append w xs ys
+failed-append w (connected wire ∷ xs) ys = failed-append w xs ys
+failed-append w (connect_failed ∷ xs) ys = failed-append w xs ys
+failed-append w (bytes_in at bytes ∷ xs) ys = failed-append w xs ys
+failed-append w (not_yet at ∷ xs) ys = failed-append w xs ys
+failed-append w (ended at ∷ xs) ys = failed-append w xs ys
+failed-append w (read_failed at ∷ xs) ys = failed-append w xs ys
+failed-append w (bytes_out at bytes ∷ xs) ys = failed-append w xs ys
+failed-append w (write_failed at ∷ xs) ys = either (at == w) (failed_in w (xs ++ ys)) (failed_in w xs) (failed_in w ys) (failed-append w xs ys)
+failed-append w (was_shut at ∷ xs) ys = failed-append w xs ys
+failed-append w (none_ready ∷ xs) ys = failed-append w xs ys
 
 -- ---- came
 

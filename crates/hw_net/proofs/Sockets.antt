@@ -32,7 +32,7 @@ use Rattle.hw_net.specs.ResponseState.{Answers, HearsResponse, ResponseStateView
 use Rattle.hw_net.specs.Saying.{WritesOut, DropsOrWrites, SpeaksAs, Says, SaysAt, SaysMore, GathersOrSays, must_end, has_closed_long, is_too_much}
 use Rattle.hw_net.specs.Sessions as session
 use Rattle.hw_net.specs.Sessions.{Call, Session, answers_in, answers_of, requests_on, replies_on, continue_of, message_on, messages_on, goes_on, sent_on, Opening, by_reply, by_ask, side_of, Leaves, Opens, IsCarried, CarriesSocket, SocketsAreCarried}
-use Rattle.hw_net.specs.WebSocketState.{WebSocketState, Gets}
+use Rattle.hw_net.specs.WebSocketState.{WebSocketState, Gets, HasHeardAll}
 use Rattle.hw_net.specs.Trace.{Chooses, bytes_of}
 use Rattle.hw_net.specs.Turn.{Hears, Falls, Passes, Settles, Loses, LosesAt, TurnsLive, TurnsAt, Listens, Replies, Puts, PutsAt, Sends, Shuts}
 use Rattle.hw_net.proofs.Asked.{HeardIn, IsAsked, step-asked, new-asked, requests_by, requests-more, requests_in, settles-requests, loses-requests, heard-requests, gives-bytes, live-reads, settles-silent, says-silent, bystander-silent, read-more, replies-silent, sends-silent, shuts-silent}
@@ -83,9 +83,7 @@ carries-on live after from wrote opening messages sent now next f e c = record {
   front = c.front;
   rest = c.rest;
   more = c.more;
-  lost = c.lost;
   parts = c.parts;
-  whole = λ l. c.whole (f l);
   leaves = c.leaves;
   fed = c.fed;
   heard_all = c.heard_all;
@@ -110,10 +108,7 @@ carries-fed from wrote opening messages sent now next piece h c = record {
   front = c.front;
   rest = c.rest;
   more = c.more ++ piece;
-  lost = [];
-  parts = ap (λ l. l ++ piece) (c.parts ∙ ap (λ l. c.front ++ (c.more ++ l)) (c.whole refl) ∙ ap (λ l. c.front ++ l) (append-nil c.more)) ∙ append_assoc c.front c.more piece
-      ∙ ap (λ l. c.front ++ l) (sym (append-nil (c.more ++ piece)));
-  whole = λ l. refl;
+  parts = ap (λ l. l ++ piece) c.parts ∙ append_assoc c.front c.more piece;
   leaves = c.leaves;
   fed = fed-more c.calls (socket_calls.Feed piece) ∙ ap (λ l. socket_calls.fed c.calls ++ l) (append-nil piece) ∙ ap (λ l. l ++ piece) c.fed ∙ append_assoc c.rest c.more piece;
   heard_all = heard-more c.calls (socket_calls.Feed piece) ∙ append-nil (socket_calls.heard c.calls) ∙ c.heard_all;
@@ -126,32 +121,17 @@ carries-fed from wrote opening messages sent now next piece h c = record {
   sound = λ l. ends-on now next (ap (λ (l : socket.Lane). l.ending) h) (c.sound refl);
 }
 
--- what was read is lost
-carries-lost : (from wrote : List ℕ) (opening : Opening) (messages : List (List ℕ)) (sent : List Sent) (now next : socket.Lane) (piece : List ℕ) → next ≡ now →
+-- nothing was read, and the lane is heard no more
+carries-broken : (from wrote : List ℕ) (opening : Opening) (messages : List (List ℕ)) (sent : List Sent) (now next : socket.Lane) (piece : List ℕ) → piece ≡ [] → next ≡ now →
     IsCarried true from wrote opening messages sent now → IsCarried false (from ++ piece) wrote opening messages sent next
-carries-lost from wrote opening messages sent now next piece e c = record {
-  calls = c.calls;
-  keeps = c.keeps;
-  runs = c.runs;
-  undropped = c.undropped;
-  same = e ∙ c.same ∙ ap (λ (l : socket.Lane). rewritten l.out.bytes c.keeps) (sym e);
-  front = c.front;
-  rest = c.rest;
-  more = c.more;
-  lost = c.lost ++ piece;
-  parts = ap (λ l. l ++ piece) c.parts ∙ append_assoc c.front (c.more ++ c.lost) piece ∙ ap (λ l. c.front ++ l) (append_assoc c.more c.lost piece);
-  whole = λ l. absurd (cc l);
-  leaves = c.leaves;
-  fed = c.fed;
-  heard_all = c.heard_all;
-  texts = c.texts;
-  opens = c.opens;
-  wrote_all = c.wrote_all;
-  unsent = c.unsent;
-  sent_all = c.sent_all;
-  took_all = took-on c.unsent now next (ap (λ (l : socket.Lane). l.ending) e) c.took_all;
-  sound = λ l. absurd (cc l);
-}
+carries-broken from wrote opening messages sent now next piece none e c =
+    subst (λ (l : List ℕ). IsCarried false l wrote opening messages sent next) (sym (ap (λ l. from ++ l) none ∙ append-nil from))
+    (carries-on true false from wrote opening messages sent now next (λ l. refl) (e ∙ ap (λ (l : socket.Lane). rewritten l.out.bytes now) (sym e)) c)
+
+-- what broke read nothing
+broken-bytes : (old : WebSocketState) (got : Option (List ℕ)) → ((got ≡ None) × HasHeardAll old.lane) ⊎ ((old.lost_bytes ≡ true) × (got ≡ Some [])) → bytes_of got ≡ []
+broken-bytes old got (inl k) = ap (λ (o : Option (List ℕ)). bytes_of o) k.0
+broken-bytes old got (inr k) = ap (λ (o : Option (List ℕ)). bytes_of o) k.1
 
 -- of the messages given none isn't taken, or it is gone by a text that was none
 abbrev Taken : List Sent → List Sent → socket.Lane → Type 0
@@ -173,9 +153,7 @@ carries-call live from written out opening messages more sent after now next cal
       front = c.front;
       rest = c.rest;
       more = c.more;
-      lost = c.lost;
       parts = c.parts;
-      whole = c.whole;
       leaves = c.leaves;
       fed = fed-more c.calls call ∙ ap (λ l. socket_calls.fed c.calls ++ l) no_food ∙ append-nil (socket_calls.fed c.calls) ∙ c.fed;
       heard_all = heard-more c.calls call ∙ ap (λ l. socket_calls.heard c.calls ++ l) hears ∙ ap (λ l. l ++ more) c.heard_all;
@@ -428,9 +406,7 @@ opened live from all texts rest opening messages leaves opens wrote none = recor
   front = from;
   rest = rest;
   more = [];
-  lost = [];
   parts = sym (append-nil from);
-  whole = λ e. refl;
   leaves = leaves;
   fed = refl;
   heard_all = sym none;
@@ -569,7 +545,8 @@ settles-borne now x protocol after reads answers what heard from written opening
           carried new (record x { protocol = Socket new; stage = Over }) input.Broken s.2 refl refl
           (subst (λ (l : List ℕ). IsCarried false (from ++ read_on x.wire reads) (written ++ (x.out ++ l)) opening (messages ++ []) sent new.lane) (sym (ap (λ (l : socket.Lane). l.out.bytes) h.is_input.1))
           (subst (λ (l : List (List ℕ)). IsCarried false (from ++ read_on x.wire reads) (written ++ (x.out ++ old.lane.out.bytes)) opening l sent new.lane) (sym (append-nil messages))
-          (carries-lost from (written ++ (x.out ++ old.lane.out.bytes)) opening messages sent old.lane new.lane (read_on x.wire reads) h.is_input.1 k)))
+          (carries-broken from (written ++ (x.out ++ old.lane.out.bytes)) opening messages sent old.lane new.lane (read_on x.wire reads)
+          (gives-bytes x.wire _ reads h.got h.read ∙ broken-bytes old h.got h.is_input.0) h.is_input.1 k)))
       go (Socket old) (Socket new) input.Gone h s w k =
           carried new (record x { since = now; protocol = protocol_after_shut (Socket new); stage = Closing }) input.Gone s.2 refl refl
           (unpadded (messages ++ []) (λ m. IsBorne (from ++ read_on x.wire reads) written opening m sent (record x { since = now; protocol = protocol_after_shut (Socket new); stage = Closing }))

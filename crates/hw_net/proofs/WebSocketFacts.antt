@@ -1,12 +1,19 @@
 -- How a read of a wire and one of a WebSocket come to one turn.
-use Rattle.std.proofs.Common.{◌≡◌, ◌≤◌, ℕ, List, [], ◌∷◌, Bool, true, false, Option, Some, IfOk, Result, Ok, Err, refl, sym, subst, ◌∙◌, arith}
+use Rattle.std.proofs.Common.{◌≡◌, ◌≤◌, ◌==◌, ◌++◌, ℕ, List, [], ◌∷◌, Bool, true, false, Option, Some, IfOk, Result, Ok, Err, refl, sym, ap, subst, ◌∙◌, arith, length}
+use Rattle.std.proofs.lemmas.List.{nil_from_length}
+use Rattle.websocket.specs.Connection.{read_step}
+use Rattle.websocket.specs.Frame.{decode_frame}
+use Rattle.websocket.specs.FrameHeader.{decode_header}
 use Rattle.hw_door.specs.Traffic.{Answer}
+use Rattle.hw_socket.specs.Lane.{Lane, fresh_lane}
 use Rattle.hw_socket.specs.Reading.{Feeds}
+use Rattle.hw_socket.specs.declared.vocabulary.SocketSide.{SocketSide}
 use Rattle.hw_net.specs.declared.limits.TheConstants.{PIECE}
 use Rattle.hw_net.specs.declared.input.Input.{Input}
 use Rattle.hw_net.specs.declared.input.Input.TheVariants as input
 use Rattle.hw_net.specs.Trace.{Tells, Reads}
-use Rattle.hw_net.specs.WebSocketState.{WebSocketState, HearsWebSocket, ReadsInto, Finds, IsInput, room_of}
+use Rattle.hw_net.specs.WebSocketState.{WebSocketState, HearsWebSocket, ReadsInto, Finds, IsInput, IsWaiting, IsWebSocketState, room_of}
+use Rattle.hw_net.proofs.Shares.{equal}
 
 pub room-wants_read : (before : WebSocketState) → before.wants_read ≡ true → room_of before ≡ PIECE
 room-wants_read before e = rw e refl
@@ -46,3 +53,18 @@ websocket_state-hears a b wire before mid after whole (Ok heard) e had_all h f s
     let read : ReadsInto wire before mid h.0 true = subst (λ w. ReadsInto wire before mid h.0 w) e h.2 in
     (h.0, h.1, record { got = read.got; read = read.read; is_input = input-of wire before mid after h.0 heard read f; lost_bytes = same ∙ read.lost_bytes; breaks = λ lost. absurd (cc (sym had_all ∙ lost)) })
 websocket_state-hears a b wire before mid after whole (Err why) e had_all h f same = f
+
+-- ---- one that is new
+
+-- one that was fed nothing waits for bytes
+fresh-waits : (side : SocketSide) → IsWaiting (fresh_lane side)
+unfolding read_step decode_frame decode_header
+fresh-waits side = (1, refl, refl)
+
+-- its wire is read first only if nothing came before
+pub new-sound : (side : SocketSide) (came : List ℕ) (fresh fed : Lane) (wants_read : Bool) → fresh ≡ fresh_lane side → Feeds fresh came fed → wants_read ≡ (length came == 0) → IsWebSocketState fed wants_read false
+new-sound side came fresh fed wants_read is feeds tells wants whole there =
+    let none : came ≡ [] = nil_from_length came (equal (length came) 0 (sym tells ∙ wants)) in
+    let same : fed ≡ fresh_lane side =
+    feeds ∙ ap (λ (l : Lane). record l { unread = l.unread ++ came }) is ∙ ap (λ (b : List ℕ). record (fresh_lane side) { unread = b }) none in
+    subst (λ (l : Lane). IsWaiting l) (sym same) (fresh-waits side)

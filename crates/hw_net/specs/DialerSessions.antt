@@ -239,9 +239,9 @@ DialedSocketsAreCarried =
 
 -- ---- how lanes end
 
--- A lane that is heard as lost is so for one of these causes, as a door's is: its wire broke, it had no whole response for too long, it was full for too long
--- with nothing written, or too much waits on it; or it is gone with what was read in this call: a response that is none, or not the upgrade that was asked for,
--- or a WebSocket that is gone or spoiled.
+-- A lane that is heard as lost is so for one of these causes, as a door's is: a read found its wire's end, and all that is whole was heard; a write failed; it had no
+-- whole response for too long; it was full for too long with nothing written; or too much waits on it. Or it is gone with what was read in this call: a response
+-- that is none, or not the upgrade that was asked for, or a WebSocket that is gone or spoiled.
 abbrev pub DialedLossesHaveCauses : Type 0
 DialedLossesHaveCauses =
     (addresses : List Address) (lane : ℕ) (what : Heard) (answers : List Answer) (calls : List DialerCall) (bound bound_after : ℕ) (before after : DialerState)

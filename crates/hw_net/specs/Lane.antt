@@ -6,14 +6,13 @@ use Rattle.hw_lanes.specs.declared.http.BodyKind.TheVariants as kind
 use Rattle.hh_http.specs.Lane.{at_start}
 use Rattle.hh_http.specs.Texts.{accept_of_ask, continue_text, reply_text}
 use Rattle.hw_door.specs.declared.heard.Upgrade.{Upgrade}
-use Rattle.hw_socket.specs.Lane.{fresh_lane}
 use Rattle.hw_socket.specs.Sending.{after_shut}
-use Rattle.hw_socket.specs.declared.vocabulary.SocketSide.{SocketSide}
 use Rattle.hw_socket.specs.declared.vocabulary.SocketSide.TheVariants as side
 use Rattle.hw_net.specs.declared.limits.TheConstants.{MOST_BEFORE_FULL, MOST_DRAINED, MOST_STALLED, MOST_WAIT, SWITCHING}
 use Rattle.hw_net.specs.declared.full.Fullness.{Fullness}
 use Rattle.hw_net.specs.HttpState.{HttpStateView, is_awake as http_is_awake}
 use Rattle.hw_net.specs.ResponseState.{ResponseStateView, is_awake as response_is_awake}
+use Rattle.hw_net.specs.WebSocketState.{started}
 use Rattle.hw_net.specs.declared.response_state.Expected.{Expected}
 use Rattle.hw_net.specs.declared.protocol.Protocol.{Protocol}
 use Rattle.hw_net.specs.declared.protocol.Protocol.TheVariants.{Http, Response, Socket}
@@ -177,21 +176,16 @@ rest_of (Http http_state) = http_state.lane.held
 rest_of (Response response_state) = []
 rest_of (Socket websocket_state) = []
 
--- a new WebSocket of this side that was fed with these bytes
-abbrev pub socket_of : SocketSide → List ℕ → Protocol
-socket_of own rest =
-    Socket (record { lane = record (fresh_lane own) { unread = rest }; wants_read = true; last_read_was_full = true; lost_bytes = false })
-
--- that of a server
+-- a new WebSocket of a server that was fed these bytes
 abbrev pub new_socket : List ℕ → Protocol
-new_socket rest = socket_of side.Server rest
+new_socket rest = Socket (started side.Server rest)
 
 -- that of a client, whose upgrade was accepted: its masks are made from the seed that was given with the ask
 abbrev pub accepted_socket : Option Expected → ResponseStateView → Protocol
 accepted_socket None response_state = Response response_state
-accepted_socket (Some expected) response_state = socket_of (side.Client expected.seed) response_state.lane.held
+accepted_socket (Some expected) response_state = Socket (started (side.Client expected.seed) response_state.lane.held)
 
--- after the response accepted the upgrade: a WebSocket, which was fed with what came after the response
+-- after the response accepted the upgrade: a WebSocket, which was fed what came after the response
 abbrev pub protocol_after_upgrade : Protocol → Protocol
 protocol_after_upgrade (Http http_state) = Http http_state
 protocol_after_upgrade (Response response_state) = accepted_socket response_state.upgrade response_state

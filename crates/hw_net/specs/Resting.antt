@@ -18,7 +18,7 @@ IsSound (Http http_state) = IsHttpState http_state.lane http_state.busy http_sta
 IsSound (Response response_state) =
     IsResponseState response_state.lane response_state.upgrade response_state.concluded response_state.accepted response_state.has_unparsed
 IsSound (Socket websocket_state) =
-    IsWebSocketState websocket_state.lane websocket_state.wants_read websocket_state.last_read_was_full websocket_state.lost_bytes
+    IsWebSocketState websocket_state.lane websocket_state.wants_read websocket_state.lost_bytes
 
 -- that, and that the lane isn't overdue before this moment
 pub record IsKnown (due : ℕ) (lane : Lane) : Type 0 where

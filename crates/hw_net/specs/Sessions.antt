@@ -31,6 +31,7 @@ use Rattle.hw_net.specs.Flushing.{FlushesDoor, HearsGathered}
 use Rattle.hw_net.specs.Lane.{Lane, waits, expected_of, is_full, is_live, refusal_of, is_overdue, is_stalled}
 use Rattle.hw_net.specs.Saying.{WritesIfLive, is_too_much}
 use Rattle.hw_net.specs.Turn.{Replies, Sends, Shuts}
+use Rattle.hw_net.specs.WebSocketState.{HasHeardAll}
 
 -- a call that answered Ok, with what the wires answered in it
 pub data Call : Type 0 where
@@ -102,13 +103,18 @@ was_shut_in wire [] = false
 was_shut_in wire (was_shut at ∷ answers) = (at == wire) || was_shut_in wire answers
 was_shut_in wire (answer ∷ answers) = was_shut_in wire answers
 
--- it ended, or a read or a write on it failed
-abbrev pub broke_in : ℕ → List Answer → Bool
-broke_in wire [] = false
-broke_in wire (ended at ∷ answers) = (at == wire) || broke_in wire answers
-broke_in wire (read_failed at ∷ answers) = (at == wire) || broke_in wire answers
-broke_in wire (write_failed at ∷ answers) = (at == wire) || broke_in wire answers
-broke_in wire (answer ∷ answers) = broke_in wire answers
+-- it ended, or a read on it failed
+abbrev pub ended_in : ℕ → List Answer → Bool
+ended_in wire [] = false
+ended_in wire (ended at ∷ answers) = (at == wire) || ended_in wire answers
+ended_in wire (read_failed at ∷ answers) = (at == wire) || ended_in wire answers
+ended_in wire (answer ∷ answers) = ended_in wire answers
+
+-- a write on it failed
+abbrev pub failed_in : ℕ → List Answer → Bool
+failed_in wire [] = false
+failed_in wire (write_failed at ∷ answers) = (at == wire) || failed_in wire answers
+failed_in wire (answer ∷ answers) = failed_in wire answers
 
 -- ---- what waits and is written later
 
@@ -281,11 +287,18 @@ IsSpoiled (Http http_state) = ⊥
 IsSpoiled (Response response_state) = ⊥
 IsSpoiled (Socket websocket_state) = websocket_state.lost_bytes ≡ true
 
--- why a lane is lost, by what the wires answered so far, and by how it is left: its wire broke, it waited for a request for too long, it
--- was full for too long with nothing written, or too much waits on it
+-- if it is a WebSocket, it heard each message that is whole in the bytes that it was fed, or is gone
+abbrev pub IsHeardOut : Protocol → Type 0
+IsHeardOut (Http http_state) = ⊤
+IsHeardOut (Response response_state) = ⊤
+IsHeardOut (Socket websocket_state) = HasHeardAll websocket_state.lane
+
+-- why a lane is lost, by what the wires answered so far, and by how it is left: a read found its wire ended or failed, and all that is whole was heard; a write on
+-- its wire failed; it waited for a request for too long; it was full for too long with nothing written; or too much waits on it
 abbrev pub IsLostRightly : ℕ → List Answer → Lane → Type 0
 IsLostRightly now answers lane =
-    (broke_in lane.wire answers ≡ true) ⊎ (is_overdue now lane ≡ true) ⊎ (is_stalled lane ≡ true) ⊎ (is_too_much (length (waits lane)) ≡ true)
+    ((ended_in lane.wire answers ≡ true) × IsHeardOut lane.protocol) ⊎ (failed_in lane.wire answers ≡ true) ⊎ (is_overdue now lane ≡ true) ⊎ (is_stalled lane ≡ true)
+    ⊎ (is_too_much (length (waits lane)) ≡ true)
 
 -- A lane that is heard as lost is so for one of these causes, or it is a WebSocket that is gone with what was read in this call, or is
 -- spoiled.
@@ -380,10 +393,9 @@ abbrev pub Opens : Opening → List ℕ → Type 0
 Opens (by_reply requests replies) texts = AreTextsOf replies texts
 Opens (by_ask upgrade text) texts = texts ≡ text
 
--- What a WebSocket did, as calls of a fresh one of its side that keeps all that it has to write. It was fed with what its opening leaves of the bytes
--- read, and then with all others, but for some that are lost if it isn't heard any more. Its payloads are the messages heard. And the bytes written, or that
--- wait, are those of its opening, and then what it wrote. It took the messages that were given while its lane went on, in order, but for those from a text on
--- that was none; and that is why it is gone if it still is heard.
+-- What a WebSocket did, as calls of a fresh one of its side that keeps all that it has to write. It was fed what its opening leaves of the bytes read, and then
+-- all others. Its payloads are the messages heard. And the bytes written, or that wait, are those of its opening, and then what it wrote. It took the messages that
+-- were given while its lane went on, in order, but for those from a text on that was none; and that is why it is gone if it still is heard.
 pub record IsCarried (live : Bool) (came wrote : List ℕ) (opening : Opening) (messages : List (List ℕ)) (given : List Sent) (now : socket.Lane) : Type 0 where
   pub calls : List socket_calls.Call
   pub keeps : socket.Lane
@@ -393,9 +405,7 @@ pub record IsCarried (live : Bool) (came wrote : List ℕ) (opening : Opening) (
   pub front : List ℕ
   pub rest : List ℕ
   pub more : List ℕ
-  pub lost : List ℕ
-  pub parts : came ≡ front ++ (more ++ lost)
-  pub whole : live ≡ true → lost ≡ []
+  pub parts : came ≡ front ++ more
   pub leaves : Leaves opening front rest
   pub fed : socket_calls.fed calls ≡ rest ++ more
   pub heard_all : socket_calls.heard calls ≡ messages

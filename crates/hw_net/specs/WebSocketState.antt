@@ -1,11 +1,12 @@
 -- A lane that is a WebSocket, and what it hears in one turn.
-use Rattle.std.specs.Prelude.{◌≡◌, ◌⊎◌, ℕ, Bool, true, false, if◌then◌else◌, List, [], Option, None, Some, is_some, refl}
+use Rattle.std.specs.Prelude.{◌≡◌, ◌⊎◌, ◌==◌, ℕ, Bool, true, false, if◌then◌else◌, List, [], length, Option, None, Some, is_some, refl}
 use Rattle.std.specs.Coded.{Coded, code_by, coded×, coded_bool}
 use Rattle.hw_door.specs.Traffic.{Answer}
-use Rattle.hw_socket.specs.Lane.{Lane, lane_code}
+use Rattle.hw_socket.specs.Lane.{Lane, fresh_lane, lane_code}
 use Rattle.hw_socket.specs.Reading.{Feeds, Takes, Steps}
 use Rattle.hw_socket.specs.declared.vocabulary.SocketRead.{SocketRead}
 use Rattle.hw_socket.specs.declared.vocabulary.SocketRead.TheVariants as read
+use Rattle.hw_socket.specs.declared.vocabulary.SocketSide.{SocketSide}
 use Rattle.hw_net.specs.declared.limits.TheConstants.{PIECE}
 use Rattle.hw_net.specs.declared.input.Input.{Input}
 use Rattle.hw_net.specs.declared.input.Input.TheVariants as input
@@ -32,11 +33,22 @@ websocket_state_code =
 abbrev pub IsWaiting : Lane → Type 0
 IsWaiting lane = Steps lane lane (Some read.NotYet)
 
--- what holds of every WebSocket here: one that heard all messages that came waits for more bytes, unless it is gone or lost some. A new one,
--- which may have been fed with some already, counts as one whose last read was full.
-abbrev pub IsWebSocketState : Lane → Bool → Bool → Bool → Type 0
-IsWebSocketState lane wants_read last_read_was_full lost_bytes =
-    wants_read ≡ true → last_read_was_full ≡ false → lost_bytes ≡ false → lane.ending ≡ None → IsWaiting lane
+-- each message that is whole in the bytes that it was fed was heard: it waits for more, unless it is gone
+abbrev pub HasHeardAll : Lane → Type 0
+HasHeardAll lane = lane.ending ≡ None → IsWaiting lane
+
+-- what holds of every WebSocket here: one whose wire is read next has heard all that is whole, unless it lost bytes
+abbrev pub IsWebSocketState : Lane → Bool → Bool → Type 0
+IsWebSocketState lane wants_read lost_bytes = wants_read ≡ true → lost_bytes ≡ false → HasHeardAll lane
+
+-- a new one of this side, which was fed these bytes: what is whole in them is heard before its wire is read
+abbrev pub started : SocketSide → List ℕ → WebSocketState
+started side bytes = record {
+  lane = record (fresh_lane side) { unread = bytes };
+  wants_read = length bytes == 0;
+  last_read_was_full = true;
+  lost_bytes = false;
+}
 
 -- nothing is to be heard before more bytes come, and nothing to be written
 pub record IsCalm (websocket_state : WebSocketState) : Type 0 where
@@ -71,7 +83,8 @@ Finds before after (input.Message bytes) = Takes before.lane after.lane (read.Pa
 Finds before after input.Gone = Takes before.lane after.lane read.Gone × (after.wants_read ≡ false)
 Finds before after _ = ⊥
 
--- what is heard is what a read gives after the bytes that came
+-- What is heard is what a read gives after the bytes that came. It is heard as broken only where its wire broke at a read before which all that is whole was
+-- heard, or where it lost bytes, and then the wire isn't read.
 abbrev pub IsInput : WebSocketState → WebSocketState → List Answer → Option (List ℕ) → Input → Type 0
 IsInput before after answers got input.Nothing =
     Gets before.lane got read.NotYet after.lane × IsAsked (room_of before) answers × (after.wants_read ≡ true)
@@ -80,7 +93,8 @@ IsInput before after answers got (input.Refused refusal) = ⊥
 IsInput before after answers got (input.Response status body) = ⊥
 IsInput before after answers got input.Upgraded = ⊥
 IsInput before after answers got (input.Message bytes) = Gets before.lane got (read.Payload bytes) after.lane × (after.wants_read ≡ false)
-IsInput before after answers got input.Broken = ((got ≡ None) ⊎ (before.lost_bytes ≡ true)) × (after.lane ≡ before.lane)
+IsInput before after answers got input.Broken =
+    (((got ≡ None) × HasHeardAll before.lane) ⊎ ((before.lost_bytes ≡ true) × (got ≡ Some []))) × (after.lane ≡ before.lane)
 IsInput before after answers got input.Gone = Gets before.lane got read.Gone after.lane × (after.wants_read ≡ false)
 
 -- One turn: the wire is read at most once, the WebSocket is fed with what it gave, and then it is read once. One that lost bytes is heard as

@@ -31,7 +31,7 @@ use crate::writing::write_bytes;
 use hh_http::{write_continue, write_reply};
 use hw_door::{Event, Upgrade, Wires};
 use hw_lanes::{Refusal, Reply};
-use hw_socket::{SocketLane, SocketSide};
+use hw_socket::SocketSide;
 use std::alloc::{AllocError, Global};
 use std::marker::Model;
 
@@ -617,9 +617,9 @@ impl NetLane {
         let Some(seed) = response_state.seed() else {
             return Ok(());
         };
-        let mut lane = SocketLane::start(self.alloc, SocketSide::Client { seed });
-        lane.feed(response_state.rest())?;
-        self.protocol = Protocol::Socket(WebSocketState::of(lane));
+        let side = SocketSide::Client { seed };
+        let websocket_state = WebSocketState::start(self.alloc, side, response_state.rest())?;
+        self.protocol = Protocol::Socket(websocket_state);
         Ok(())
     }
 
@@ -860,13 +860,21 @@ impl NetLane {
         }) }
         ensures err { OnErr result (self.new ≡ self.old) }
     {
-        let mut lane = SocketLane::start(self.alloc, SocketSide::Server);
-        if let Protocol::Http(http_state) = &self.protocol {
-            lane.feed(http_state.rest())?;
-        }
+        let websocket_state = WebSocketState::start(self.alloc, SocketSide::Server, self.rest())?;
         write_reply(reply, &mut self.out)?;
-        self.protocol = Protocol::Socket(WebSocketState::of(lane));
+        self.protocol = Protocol::Socket(websocket_state);
         Ok(())
+    }
+
+    /// The bytes that were read and belong to no request.
+    fn rest(&self) -> &[u8]
+        ensures { result.now ≡ rest_of self.now.protocol }
+    {
+        match &self.protocol {
+            Protocol::Http(http_state) => http_state.rest(),
+            Protocol::Response(_) => &[],
+            Protocol::Socket(_) => &[],
+        }
     }
 
     /// Sends a message, if the lane is a WebSocket that can. The answer is whether the lane is full now.

@@ -129,9 +129,9 @@ pub fn wires_are_shut_for_a_cause()
     ensures lanes { LanesHaveWires }
 {}
 
-/// A lane is heard as lost only for one of the causes: its wire ended or failed, its WebSocket is gone, it waited for a request for
-/// 30,000 ms, it was full and nothing could be written on its wire for 30,000 ms, more than 1,048,576 bytes would wait, or memory was out
-/// when it was read.
+/// A lane is heard as lost only for one of the causes: a read found that its wire ended or failed, a write on it failed, its WebSocket is gone, it waited for a
+/// request for 30,000 ms, it was full and nothing could be written on its wire for 30,000 ms, more than 1,048,576 bytes would wait, or memory was out when it was
+/// read. Where a read found the end, its WebSocket had heard each message that is whole in the bytes read, also in those that came with its upgrade, or was gone.
 pub fn losses_have_causes()
     ensures { LossesHaveCauses }
 {}
@@ -145,8 +145,9 @@ pub fn responses_are_given()
 {}
 
 /// A lane of a dialer is heard as lost only for one of the causes of a door's, where what it waits for is its response, or because what came is no response, or
-/// a 101 that isn't the upgrade that was asked for. A lane that stands on no wire is lost because its ask went nowhere: once, and in the order of the asks. Nothing is
-/// heard of a lane after its loss, and of one that the caller shut nothing but its loss, where its wire was shut before.
+/// a 101 that isn't the upgrade that was asked for. Where a read found the end, its WebSocket had heard all that is whole, as a door's had. A lane that stands on
+/// no wire is lost because its ask went nowhere: once, and in the order of the asks. Nothing is heard of a lane after its loss, and of one that the caller shut
+/// nothing but its loss, where its wire was shut before.
 pub fn dialed_losses_have_causes()
     ensures causes { DialedLossesHaveCauses }
     ensures missed { UndialedAreMissed }
@@ -187,14 +188,14 @@ pub fn lanes_are_reached()
     ensures reached { LanesAreReached }
 {}
 
-/// A lane that became a WebSocket carries a fresh one, call by call. It is fed with what the requests leave of the bytes read, its payloads
-/// are the messages heard, and what it wrote stands behind the replies.
+/// A lane that became a WebSocket carries a fresh one, call by call. It is fed what the requests leave of the bytes read up to the upgrade and then all others that
+/// are read, its payloads are the messages heard, and what it wrote stands behind the replies.
 pub fn sockets_are_carried()
     ensures { SocketsAreCarried }
 {}
 
-/// So does a lane of a dialer, from its upgrade on. It is a client's, with the masks of the seed that was given with the ask, is fed with what the response leaves
-/// of the bytes read and then with all others, and what it wrote stands behind the ask.
+/// So does a lane of a dialer, from its upgrade on. It is a client's, with the masks of the seed that was given with the ask, is fed what the response leaves of the
+/// bytes read up to the upgrade and then all others that are read, and what it wrote stands behind the ask.
 pub fn dialed_sockets_are_carried()
     ensures { DialedSocketsAreCarried }
 {}

@@ -69,6 +69,7 @@
 //!   was listened to, or rests, and the wires told in the end that none of them has anything to give. It loses no lane, and fails only where `poll`
 //!   or `accept` did. Before it answers an error it flushes.
 //!   A request whose head expects a 100 (RFC 9110, section 10.1.1) gets one, once, before all else, if its body isn't whole then.
+//!   The wire of a WebSocket is read only once each message that is whole was heard, so its end takes none of them along.
 //! - `reply` puts the text of the reply behind what waits, if a request waits for it, and writes.
 //! - `send` puts the frame of a message behind what waits, if the lane is a live WebSocket that isn't gone. The message is gathered: it is written
 //!   by the next flush, or here once 65,536 bytes wait. The answer is whether the lane is full then, and over whole sessions that stays so until

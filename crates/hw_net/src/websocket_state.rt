@@ -8,7 +8,7 @@ ghost use Rattle.hw_socket.specs.Sending.{after_shut};
 ghost use Rattle.hw_net.specs.declared.limits.TheConstants.{PIECE};
 ghost use Rattle.hw_net.specs.Halting.{HaltsSocket};
 ghost use Rattle.hw_net.specs.Saying.{Writes};
-ghost use Rattle.hw_net.specs.WebSocketState.{HearsWebSocket, ReadsInto, Finds, IsCalm, IsWebSocketState};
+ghost use Rattle.hw_net.specs.WebSocketState.{HearsWebSocket, ReadsInto, Finds, IsCalm, IsWebSocketState, started};
 ghost use Rattle.hw_net.specs.Trace.{Tells, Reads};
 ghost use Rattle.hw_net.specs.Turn.{IsRightInput};
 
@@ -17,15 +17,15 @@ use crate::protocol::Protocol;
 use crate::reading::read_piece;
 use crate::writing::write_frames;
 use hw_door::Wires;
-use hw_socket::{SocketLane, SocketRead};
-use std::alloc::AllocError;
+use hw_socket::{SocketLane, SocketRead, SocketSide};
+use std::alloc::{AllocError, Global};
 use std::marker::Model;
 
 /// The messages of one lane.
 #[derive(Drop)]
 pub struct WebSocketState {
     lane: SocketLane,
-    // All messages that came were heard, so more bytes are read.
+    // All messages that came were heard, so more bytes are read. A wire that is read sooner may end, and they would be lost.
     wants_read: bool,
     // The last read filled the room that it had, or there was none.
     last_read_was_full: bool,
@@ -42,20 +42,22 @@ impl Model for WebSocketState {
 
     ghost view = { λ t. record { lane = t.lane; wants_read = t.wants_read; last_read_was_full = t.last_read_was_full; lost_bytes = t.lost_bytes } };
 
-    ghost invariant = { λ t. IsWebSocketState t.lane t.wants_read t.last_read_was_full t.lost_bytes };
+    ghost invariant = { λ t. IsWebSocketState t.lane t.wants_read t.lost_bytes };
 }
 
 impl WebSocketState {
-    /// A WebSocket on which nothing was read.
-    pub fn of(lane: SocketLane) -> WebSocketState
-        ensures { result ≡ record { lane = lane; wants_read = true; last_read_was_full = true; lost_bytes = false } }
+    /// A WebSocket of this side, of whose bytes these came with what opened it. It hears what is whole in them first, and then reads its wire.
+    pub fn start(alloc: Global, side: SocketSide, came: &[u8]) -> Result<WebSocketState, AllocError>
+        ensures { IfOk result (λ websocket_state. websocket_state ≡ started side came.now) }
     {
-        WebSocketState {
+        let mut lane = SocketLane::start(alloc, side);
+        lane.feed(came)?;
+        Ok(WebSocketState {
             lane,
-            wants_read: true,
+            wants_read: came.is_empty(),
             last_read_was_full: true,
             lost_bytes: false,
-        }
+        })
     }
 
     /// Reads what has come, unless messages may be left that came before, and hears one message.
@@ -135,7 +137,7 @@ impl WebSocketState {
 
     /// What holds of every WebSocket here holds of this one. It does nothing.
     pub fn is_sound(&self)
-        ensures { IsWebSocketState self.now.lane self.now.wants_read self.now.last_read_was_full self.now.lost_bytes }
+        ensures { IsWebSocketState self.now.lane self.now.wants_read self.now.lost_bytes }
     {
         let _lane = &self.lane;
     }
