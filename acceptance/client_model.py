@@ -52,7 +52,7 @@ def is_up(response, body):
 
 
 def head_of(data):
-    """How many of these bytes a server says before it has heard a client on the WebSocket: those up to the 101, or all."""
+    """How many of these bytes are those of the response: those up to the end of a 101 by which the client comes up, or all."""
     answer = response_in(data)
     return len(data) - len(answer[2]) if answer != LOST and is_up(*answer[:2]) else len(data)
 

@@ -119,7 +119,7 @@ class Running:
 
 class Lane:
     def __init__(self, accepted):
-        self.socket, self.came, self.is_over, self.left = accepted, b"", False, None
+        self.socket, self.came, self.is_over, self.has_answered = accepted, b"", False, False
         self.socket.setblocking(False)
 
     def reads(self):
@@ -130,20 +130,16 @@ class Lane:
         self.came, self.is_over = self.came + piece, not piece
 
     def answers(self, answer):
-        """Says what comes up to a 101, and the rest once the client has said something there; then it ends."""
-        head, mark, said = self.came.partition(HEAD_END)
-        if not mark or self.left == b"" or self.left and not said:
+        """Says all of the answer at once, also what follows a 101, and then it ends."""
+        head, mark, _ = self.came.partition(HEAD_END)
+        if not mark or self.has_answered:
             return
+        self.has_answered = True
         with contextlib.suppress(OSError):
-            if self.left is None:
-                key, size = KEY.search(head), client_model.head_of(answer)
-                self.left = answer[size:]
-                self.socket.sendall(answer[:size].replace(ACCEPTS, accept_of(key[1]).encode()) if key else answer[:size])
-            else:
-                self.socket.sendall(self.left)
-                self.left = b""
-            if not self.left:
-                self.socket.shutdown(socket.SHUT_WR)
+            key, size = KEY.search(head), client_model.head_of(answer)
+            first = answer[:size].replace(ACCEPTS, accept_of(key[1]).encode()) if key else answer[:size]
+            self.socket.sendall(first + answer[size:])
+            self.socket.shutdown(socket.SHUT_WR)
 
     def line(self):
         """The method and the target of its request."""
