@@ -1,0 +1,14 @@
+pub mod Steps
+pub mod Verdicts
+pub mod Told
+pub mod Worlds
+pub mod OneEnd
+pub mod Recorded
+pub mod Growing
+pub mod Dues
+pub mod Giving
+pub mod Owing
+pub mod Feeding
+pub mod Taking
+pub mod Ending
+pub mod Beside

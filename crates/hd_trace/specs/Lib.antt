@@ -1,0 +1,12 @@
+pub mod Traces
+pub mod Alone
+pub mod Breaking
+pub mod Recording
+pub mod Laws
+pub mod Marks
+pub mod ByMarks
+pub mod MarkLaws
+pub mod Owed
+pub mod Given
+pub mod ByNumbers
+pub mod Examples
