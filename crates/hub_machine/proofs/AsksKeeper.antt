@@ -141,13 +141,14 @@ IsTold hub old new c j i = (a : MachineView) → AnswersAt (a.settings c) j i (a
 
 -- no member is told, no list changes, and the job is told what the keeper answered
 carried_asking : {H Job : Type 0} (hub : Hub Job) (new old : Machine H Job) (before now : KeeperState) (r : List MachineEvent) (c j : ℕ) (d : Deed) (ask : Asked)
-    → StandsMachine {H = H} hub old r → owed r ≡ OwesDeed c j d → is_there c r ≡ true → IsAskedFor d (who_of (settings_of c r)) (Some ask)
+    → StandsMachine {H = H} hub old r → new.idle_set.clock ≡ old.idle_set.clock → owed r ≡ OwesDeed c j d → is_there c r ≡ true
+    → IsAskedFor d (who_of (settings_of c r)) (Some ask)
     → fates_of d r ≡ [] → lists_after d c (registry r) ≡ registry r → is_deed_answer (answer_to c d (Some ask) r) ≡ true → WasAsked before now ask
     → IsTold {H = H} hub old new c j (answer_to c d (Some ask) r) → IsCarried {H = H} hub new before now r c j d
-carried_asking {H} {Job} hub new old before now r c j d ask s owes there is_asked none same is_answer was told = record {
+carried_asking {H} {Job} hub new old before now r c j d ask s clock owes there is_asked none same is_answer was told = record {
   asked = Some ask;
   is_asked = is_asked;
-  stands = carried_quietly {H = H} {Job = Job} hub new old r c j d (Some ask) s owes there is_asked none
+  stands = carried_quietly {H = H} {Job = Job} hub new old r c j d (Some ask) s clock owes there is_asked none
       (told (with_lists (lists_after d c (registry r)) (machine_view r)) (may_answer {H = H} {Job = Job} hub old r c j d (answer_to c d (Some ask) r) s owes is_answer)
       (record { at = s.at; index = s.index; registry = subst (λ l. StandsRegistry old.registry l) (sym same) s.registry }));
   goes = goes_asked before now r c j d (fates_of d r) ask was;
@@ -155,11 +156,11 @@ carried_asking {H} {Job} hub new old before now r c j d ask s owes there is_aske
 
 -- a line is logged, or the keeper fails in that
 pub log_carried : {H Job : Type 0} (hub : Hub Job) (new old : Machine H Job) (before now : KeeperState) (r : List MachineEvent) (c j : ℕ) (room who words : List ℕ)
-    (is_resumable : Bool) → StandsMachine {H = H} hub old r → owed r ≡ OwesDeed c j (Log room words) → is_there c r ≡ true → who ≡ who_of (settings_of c r)
+    (is_resumable : Bool) → StandsMachine {H = H} hub old r → new.idle_set.clock ≡ old.idle_set.clock → owed r ≡ OwesDeed c j (Log room words) → is_there c r ≡ true → who ≡ who_of (settings_of c r)
     → WasAsked before now (keeper.Log room who words is_resumable) → IsTold {H = H} hub old new c j (answer_to c (Log room words) (Some (keeper.Log room who words is_resumable)) r)
     → IsCarried {H = H} hub new before now r c j (Log room words)
-log_carried {H} {Job} hub new old before now r c j room who words is_resumable s owes there named was told =
-    carried_asking {H = H} {Job = Job} hub new old before now r c j (Log room words) (keeper.Log room who words is_resumable) s owes there
+log_carried {H} {Job} hub new old before now r c j room who words is_resumable s clock owes there named was told =
+    carried_asking {H = H} {Job = Job} hub new old before now r c j (Log room words) (keeper.Log room who words is_resumable) s clock owes there
     (is_resumable, ap (λ w. Some (keeper.Log room w words is_resumable)) named) refl refl (answers is_resumable) was told
   where
     answers : (b : Bool) → is_deed_answer (answer_to c (Log room words) (Some (keeper.Log room who words b)) r) ≡ true
@@ -168,11 +169,11 @@ log_carried {H} {Job} hub new old before now r c j room who words is_resumable s
 
 -- rows are given, or the keeper fails in that
 pub history_carried : {H Job : Type 0} (hub : Hub Job) (new old : Machine H Job) (before now : KeeperState) (r : List MachineEvent) (c j : ℕ) (room : List ℕ)
-    (most : ℕ) (texts : Option (List (List ℕ))) → StandsMachine {H = H} hub old r → owed r ≡ OwesDeed c j (History room most) → is_there c r ≡ true
+    (most : ℕ) (texts : Option (List (List ℕ))) → StandsMachine {H = H} hub old r → new.idle_set.clock ≡ old.idle_set.clock → owed r ≡ OwesDeed c j (History room most) → is_there c r ≡ true
     → WasAsked before now (keeper.History room most texts) → IsTold {H = H} hub old new c j (answer_to c (History room most) (Some (keeper.History room most texts)) r)
     → IsCarried {H = H} hub new before now r c j (History room most)
-history_carried {H} {Job} hub new old before now r c j room most texts s owes there was told =
-    carried_asking {H = H} {Job = Job} hub new old before now r c j (History room most) (keeper.History room most texts) s owes there
+history_carried {H} {Job} hub new old before now r c j room most texts s clock owes there was told =
+    carried_asking {H = H} {Job = Job} hub new old before now r c j (History room most) (keeper.History room most texts) s clock owes there
     (texts, refl) refl refl (answers texts) was told
   where
     answers : (o : Option (List (List ℕ))) → is_deed_answer (answer_to c (History room most) (Some (keeper.History room most o)) r) ≡ true

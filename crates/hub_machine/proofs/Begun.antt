@@ -184,6 +184,7 @@ module _ {H Job : Type 0} (hub : Hub Job) (old new : Machine H Job) (w : List Ma
         (λ k. moves k after) others_kept here;
     index = index_new {H = H} {Job = Job} old new c p s.index changed puts
         (room_for_all old.idle_set taken new.idle_set (btree_map_len old.peers) (btree_map_len new.peers) c adds s.index.kept few unnapped);
+    rounds = ap (λ (k : IdleClock). k.rounds) changed.clock ∙ s.rounds;
     registry = lists;
     peers = λ k o e. peers_each k o e (c == k) refl;
     said = λ k o e. said_each k o e (c == k) refl;

@@ -12,6 +12,7 @@ use Rattle.hg_groups.specs.Standing.{StandsRegistry}
 use Rattle.hd_server.specs.Machine.{MachineEvent, Goes, has_gone, is_open, is_open_at, moves, registry, settings_of}
 use Rattle.hp_peer.specs.declared.peer.Peer.{Peer}
 use Rattle.hub_machine.specs.declared.machine.Machine.{Machine}
+use Rattle.hub_machine.specs.declared.idle_set.IdleClock.{IdleClock}
 use Rattle.hub_machine.specs.Machines.{IsKeptAs, IsPeerOf, IsStranger, StandsMachine, idle_peer_at, peer_at, settings_there}
 use Rattle.hub_machine.specs.IdleSet.{Changes, IsKept}
 use Rattle.hub_machine.proofs.Awake.{each_kept, index_gone}
@@ -74,6 +75,7 @@ module _ {H Job : Type 0} (hub : Hub Job) (old new : Machine H Job) (w : List Ma
     at = each_kept {H = H} {Job = Job} hub old new c None None false changed updates.1 (λ k e. updates.2 k (ends.apart c k e))
         (λ k. settings_there k after) (λ k. moves k w) others_kept here;
     index = index_gone {H = H} {Job = Job} old new c s.index changed updates fewer;
+    rounds = ap (λ (k : IdleClock). k.rounds) changed.clock ∙ s.rounds;
     registry = subst (λ l. StandsRegistry new.registry l) (sym (registry_closed c w after refl refl shut others_open)) (leaves (registry w) s.registry);
     peers = s.peers;
     said = s.said;

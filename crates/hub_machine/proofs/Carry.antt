@@ -26,6 +26,7 @@ use Rattle.hd_server.specs.Machine.{with_fate}
 use Rattle.hg_groups.specs.declared.registry.Registry.{Registry}
 use Rattle.hg_groups.specs.Standing.{StandsRegistry}
 use Rattle.hub_machine.specs.declared.machine.Machine.{Machine}
+use Rattle.hub_machine.specs.declared.idle_set.IdleClock.{IdleClock}
 use Rattle.hub_machine.specs.Machines.{IsKeptAs, IsStranger, SaysAsSent, StandsMachine, idle_peer_at, peer_at, settings_there}
 use Rattle.hub_machine.specs.MachineView.{MachineView, AreSame, AreUp, StandsFor, machine_view, fates_in, is_up_in, lists_after, moved, told, with_lists, without_slow}
 use Rattle.hub_machine.specs.KeeperState.{KeeperState, HasAnsweredDuring, asks_in, keeper_state, spoken_at}
@@ -250,11 +251,12 @@ stands_listed {H} {Job} hub m r x l s lists = record {
 
 -- it stands for what it did for others, and for what its peers and its registry are now
 pub stands_carried : {H Job : Type 0} (hub : Hub Job) (new old : Machine H Job) (r : List MachineEvent) (c j : ℕ) (d : Deed) (fates : List (ℕ × DeliveryOutcome))
-    (asked : Option Asked) → StandsMachine {H = H} hub old r → IsHere c r → AreFates r fates
+    (asked : Option Asked) → StandsMachine {H = H} hub old r → new.idle_set.clock ≡ old.idle_set.clock → IsHere c r → AreFates r fates
     → StandsFor {H = H} hub new (machine_view (Carries c j d fates asked ∷ r)) → StandsMachine {H = H} hub new (Carries c j d fates asked ∷ r)
-stands_carried {H} {Job} hub new old r c j d fates asked s at f stands = record {
+stands_carried {H} {Job} hub new old r c j d fates asked s clock at f stands = record {
   at = stands.at;
   index = stands.index;
+  rounds = ap (λ (k : IdleClock). k.rounds) clock ∙ s.rounds;
   registry = stands.registry;
   peers = λ k t e. each k t e (has_gone k r) refl;
   said = λ k t e. says k t e (has_gone k r) refl;
@@ -279,12 +281,13 @@ same_back a b e = record { settings = λ c. sym (e.settings c); moves = λ c. sy
 
 -- members were told, and the job is answered
 pub carried_stands : {H Job : Type 0} (hub : Hub Job) (new old : Machine H Job) (r : List MachineEvent) (c j : ℕ) (d : Deed) (asked : Option Asked)
-    → StandsMachine {H = H} hub old r → owed r ≡ OwesDeed c j d → is_there c r ≡ true → IsAskedFor d (who_of (settings_of c r)) asked → (b : MachineView)
+    → StandsMachine {H = H} hub old r → new.idle_set.clock ≡ old.idle_set.clock → owed r ≡ OwesDeed c j d → is_there c r ≡ true
+    → IsAskedFor d (who_of (settings_of c r)) asked → (b : MachineView)
     → AreSame (moved c (Answers j (answer_to c d asked r)) (told d (fates_of d r) (with_lists (lists_after d c (registry r)) (machine_view r)))) b
     → StandsFor {H = H} hub new b → StandsMachine {H = H} hub new (Carries c j d (fates_of d r) asked ∷ r)
-carried_stands {H} {Job} hub new old r c j d asked s e there is_asked b same stands =
+carried_stands {H} {Job} hub new old r c j d asked s clock e there is_asked b same stands =
     let all : MachineView = moved c (Answers j (answer_to c d asked r)) (told d (fates_of d r) (with_lists (lists_after d c (registry r)) (machine_view r))) in
-    stands_carried {H = H} {Job = Job} hub new old r c j d (fates_of d r) asked s (here c r there) (are_fates d r)
+    stands_carried {H = H} {Job = Job} hub new old r c j d (fates_of d r) asked s clock (here c r there) (are_fates d r)
     (same_stands {H = H} {Job = Job} hub new all (machine_view (Carries c j d (fates_of d r) asked ∷ r))
     (same_affairs r c j d asked (open_here {H = H} {Job = Job} hub old r c j d s e there))
     (same_stands {H = H} {Job = Job} hub new b all (same_back all b same) stands))
@@ -302,13 +305,14 @@ moved_same c m a b e = record {
 }
 
 pub carried_quietly : {H Job : Type 0} (hub : Hub Job) (new old : Machine H Job) (r : List MachineEvent) (c j : ℕ) (d : Deed) (asked : Option Asked)
-    → StandsMachine {H = H} hub old r → owed r ≡ OwesDeed c j d → is_there c r ≡ true → IsAskedFor d (who_of (settings_of c r)) asked → fates_of d r ≡ []
+    → StandsMachine {H = H} hub old r → new.idle_set.clock ≡ old.idle_set.clock → owed r ≡ OwesDeed c j d → is_there c r ≡ true
+    → IsAskedFor d (who_of (settings_of c r)) asked → fates_of d r ≡ []
     → StandsFor {H = H} hub new (moved c (Answers j (answer_to c d asked r)) (with_lists (lists_after d c (registry r)) (machine_view r)))
     → StandsMachine {H = H} hub new (Carries c j d (fates_of d r) asked ∷ r)
-carried_quietly {H} {Job} hub new old r c j d asked s e there is_asked none stands =
+carried_quietly {H} {Job} hub new old r c j d asked s clock e there is_asked none stands =
     let a : MachineView = with_lists (lists_after d c (registry r)) (machine_view r) in
     let m : PeerEvent = Answers j (answer_to c d asked r) in
-    carried_stands {H = H} {Job = Job} hub new old r c j d asked s e there is_asked (moved c m a)
+    carried_stands {H = H} {Job = Job} hub new old r c j d asked s clock e there is_asked (moved c m a)
     (moved_same c m (told d (fates_of d r) a) a (subst (λ fs. AreSame (told d fs a) a) (sym none) (told_nobody d a))) stands
 
 -- whether an open connection may join is read off its registry, and so is what its job is told
@@ -347,12 +351,13 @@ fates_in_are r (c ∷ cs) target arguments u =
 
 -- a deed that tells members, and changes no group
 pub carried_telling : {H Job : Type 0} (hub : Hub Job) (new old : Machine H Job) (r : List MachineEvent) (c j : ℕ) (d : Deed)
-    (fates : List (ℕ × DeliveryOutcome)) (b : MachineView) → StandsMachine {H = H} hub old r → owed r ≡ OwesDeed c j d → is_there c r ≡ true
+    (fates : List (ℕ × DeliveryOutcome)) (b : MachineView) → StandsMachine {H = H} hub old r → new.idle_set.clock ≡ old.idle_set.clock
+    → owed r ≡ OwesDeed c j d → is_there c r ≡ true
     → IsAskedFor d (who_of (settings_of c r)) None
     → lists_after d c (registry r) ≡ registry r → AreSame (told d fates (machine_view r)) b → fates ≡ fates_of d r
     → StandsFor {H = H} hub new (moved c (Answers j (answer_to c d None r)) b) → StandsMachine {H = H} hub new (Carries c j d (fates_of d r) None ∷ r)
-carried_telling {H} {Job} hub new old r c j d fates b s e there is_asked lists same are stands =
-    carried_stands {H = H} {Job = Job} hub new old r c j d None s e there is_asked (moved c (Answers j (answer_to c d None r)) b)
+carried_telling {H} {Job} hub new old r c j d fates b s clock e there is_asked lists same are stands =
+    carried_stands {H = H} {Job = Job} hub new old r c j d None s clock e there is_asked (moved c (Answers j (answer_to c d None r)) b)
     (moved_same c (Answers j (answer_to c d None r)) (told d (fates_of d r) (with_lists (lists_after d c (registry r)) (machine_view r))) b
     (subst (λ l. AreSame (told d (fates_of d r) (with_lists l (machine_view r))) b) (sym lists)
     (subst (λ fs. AreSame (told d fs (machine_view r)) b) are same))) stands

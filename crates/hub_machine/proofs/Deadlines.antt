@@ -10,6 +10,7 @@ use Rattle.std.specs.BTreeSet as set
 use Rattle.std.specs.BTreeSet.{BTreeSet}
 use Rattle.std.specs.List.{list_any, AllByRecursion}
 use Rattle.std.specs.List.Sorted.{IsStrictlySortedBy}
+use Rattle.std.specs.Cmp.{unsigned_tied}
 use Rattle.std.specs.Vec.{vec_capacity}
 use Rattle.std.proofs.lemmas.Bool.{eqb-true, eq-eqb, cond-true, cond-false, or_cases, or_left, or_right}
 use Rattle.std.proofs.lemmas.Cmp.{ranked}
@@ -208,10 +209,12 @@ falls_asleep old mid new c idle_peer deadlines is sets slept kept awake = record
 
 -- ---- those that have come
 
--- the alarms that were looked at are listed, and the others come in order
-pub record RungSoFar (s : IdleSet) (conns : List ℕ) (rest : List Deadline) : Type 0 where
+-- the alarms that were looked at are listed, since they have come, and the others come in order
+pub record RungSoFar (s : IdleSet) (now : ℕ) (conns : List ℕ) (rest : List Deadline) : Type 0 where
   pub each : (c moment : ℕ) → is_set_in s moment c ≡ true → (is_listed c conns ≡ true) ⊎ (list_any (is_at (in_order (at moment c))) rest ≡ true)
   pub ordered : IsStrictlySortedBy in_order rest
+  pub only : (c : ℕ) → is_listed c conns ≡ true → (moment : ℕ) × (is_set_in s moment c ≡ true) × (moment ≤ now)
+  pub left : (c moment : ℕ) → list_any (is_at (in_order (at moment c))) rest ≡ true → is_set_in s moment c ≡ true
 
 either : (a b d : Bool) → (a || (b || d)) ≡ ((a || b) || d)
 either true b d = refl
@@ -222,9 +225,18 @@ listed_append c [] ys = refl
 listed_append c (x ∷ xs) ys =
     ap (λ (b : Bool). (c == x) || b) (listed_append c xs ys) ∙ either (c == x) (is_listed c xs) (is_listed c ys)
 
-pub one_rung : (s : IdleSet) (conns : List ℕ) (a : Deadline) (rest : List Deadline) → RungSoFar s conns (a ∷ rest)
-    → RungSoFar s (conns ++ a.conn ∷ []) rest
-one_rung s conns a rest so_far = record {
+-- an alarm is the same as itself
+itself : (a : Deadline) → is_at (in_order a) a ≡ true
+itself a = go (nat_cmp a.moment a.moment) (unsigned_tied a.moment a.moment ∙ eq-eqb a.moment a.moment refl)
+  where
+    go : (o : Ordering) → is_eq o ≡ true → is_eq (ordering_then o (nat_cmp a.conn a.conn)) ≡ true
+    go Equal e = unsigned_tied a.conn a.conn ∙ eq-eqb a.conn a.conn refl
+    go Less e = absurd (let z : false ≡ true = e in cc)
+    go Greater e = absurd (let z : false ≡ true = e in cc)
+
+pub one_rung : (s : IdleSet) (now : ℕ) (conns : List ℕ) (a : Deadline) (rest : List Deadline) → RungSoFar s now conns (a ∷ rest) → a.moment ≤ now
+    → RungSoFar s now (conns ++ a.conn ∷ []) rest
+one_rung s now conns a rest so_far come = record {
   each = λ c moment is. elim (so_far.each c moment is) [
     | inl e ↦ inl (listed_append c conns (a.conn ∷ []) ∙ or_left (is_listed c conns) (is_listed c (a.conn ∷ [])) e)
     | inr e ↦ elim (or_cases (is_at (in_order (at moment c)) a) (list_any (is_at (in_order (at moment c))) rest) e) [
@@ -234,7 +246,19 @@ one_rung s conns a rest so_far = record {
     ]
   ];
   ordered = sorted_tail in_order a rest so_far.ordered;
+  only = λ c e. elim (or_cases (is_listed c conns) (is_listed c (a.conn ∷ [])) (sym (listed_append c conns (a.conn ∷ [])) ∙ e)) [
+    | inl f ↦ so_far.only c f
+    | inr f ↦ (a.moment, so_far.left c a.moment (or_left (is_at (in_order (at a.moment c)) a) (list_any (is_at (in_order (at a.moment c))) rest) (here c f)), come)
+  ];
+  left = λ c moment e.
+      so_far.left c moment (or_right (is_at (in_order (at moment c)) a) (list_any (is_at (in_order (at moment c))) rest) e);
 }
+  where
+    here : (c : ℕ) → is_listed c (a.conn ∷ []) ≡ true → is_at (in_order (at a.moment c)) a ≡ true
+    here c e = elim (or_cases (c == a.conn) false e) [
+      | inl f ↦ subst (λ n. is_at (in_order (at a.moment n)) a ≡ true) (sym (eqb-true c a.conn f)) (itself a)
+      | inr f ↦ absurd (let z : false ≡ true = f in cc)
+    ]
 
 -- those after one come no earlier
 no_earlier : (a : Deadline) (rest : List Deadline) (c moment : ℕ) → AllByRecursion (λ y. in_order a y ≡ Less) rest
@@ -246,12 +270,22 @@ no_earlier a (b ∷ rest) c moment all e = elim (or_cases (is_at (in_order (at m
 ]
 
 -- the next comes after the moment, so that all that have come are listed
-pub all_rung_before : (s : IdleSet) (conns : List ℕ) (a : Deadline) (rest : List Deadline) (now : ℕ) → RungSoFar s conns (a ∷ rest)
+pub all_rung_before : (s : IdleSet) (conns : List ℕ) (a : Deadline) (rest : List Deadline) (now : ℕ) → RungSoFar s now conns (a ∷ rest)
     → now < a.moment → AreRung s now conns
-all_rung_before s conns a rest now so_far late c moment is come = elim (so_far.each c moment is) [
-  | inl e ↦ e
-  | inr e ↦ elim (or_cases (is_at (in_order (at moment c)) a) (list_any (is_at (in_order (at moment c))) rest) e) [
-    | inl f ↦ absurd (let m = (same (at moment c) a f).0 in omega (arith, m, late, come))
-    | inr f ↦ absurd (let l = no_earlier a rest c moment (sorted_head in_order a rest so_far.ordered) f in omega (arith, l, late, come))
-  ]
-]
+all_rung_before s conns a rest now so_far late = record {
+  all = λ c moment is come. elim (so_far.each c moment is) [
+    | inl e ↦ e
+    | inr e ↦ elim (or_cases (is_at (in_order (at moment c)) a) (list_any (is_at (in_order (at moment c))) rest) e) [
+      | inl f ↦ absurd (let m = (same (at moment c) a f).0 in omega (arith, m, late, come))
+      | inr f ↦ absurd (let l = no_earlier a rest c moment (sorted_head in_order a rest so_far.ordered) f in omega (arith, l, late, come))
+    ]
+  ];
+  only = so_far.only;
+}
+
+-- none comes after the moment
+pub all_rung : (s : IdleSet) (conns : List ℕ) (now : ℕ) → RungSoFar s now conns [] → AreRung s now conns
+all_rung s conns now so_far = record {
+  all = λ c moment is come. elim (so_far.each c moment is) [ inl e ↦ e | inr e ↦ absurd (let z : false ≡ true = e in cc) ];
+  only = so_far.only;
+}

@@ -47,12 +47,16 @@ lead_more (x ∷ ds) d a mid b p l = (p.0, p.1, lead_more ds d p.0 mid b p.2 l)
 
 -- a dealing that leads on from whatever the machine stands for comes after those before it
 pub deals_more : {H Job : Type 0} (hub : Hub Job) (old mid new : Machine H Job) (ds : List Delivering) (d : Delivering) → Delivers {H = H} hub old ds mid
+    → new.idle_set.clock ≡ mid.idle_set.clock
     → ((a : MachineView) → StandsFor {H = H} hub mid a → (b : MachineView) × LeadsBy d a b × StandsFor {H = H} hub new b)
     → Delivers {H = H} hub old (ds ++ d ∷ []) new
-deals_more hub old mid new ds d so_far one = λ a s.
-    let x = so_far a s in
-    let y = one x.0 x.2 in
-    (y.0, lead_more ds d a x.0 y.0 x.1 y.1, y.2)
+deals_more hub old mid new ds d so_far clock one = (
+  λ a s.
+      let x = so_far.0 a s in
+      let y = one x.0 x.2 in
+      (y.0, lead_more ds d a x.0 y.0 x.1 y.1, y.2),
+  clock ∙ so_far.1,
+)
 
 -- ---- one connection
 

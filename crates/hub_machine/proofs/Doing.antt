@@ -19,8 +19,9 @@ use Rattle.hp_peer.specs.Stands.{Stands}
 use Rattle.hub_machine.specs.declared.machine.Machine.{Machine}
 use Rattle.hub_machine.specs.declared.idle_set.IdleClock.{IdleClock}
 use Rattle.hub_machine.specs.declared.idle_set.IdlePeer.{IdlePeer}
+use Rattle.hub_machine.specs.declared.idle_set.IdleSet.{IdleSet}
 use Rattle.hub_machine.specs.Machines.{IsIndexed, IsKeptAs, IsPeerOf, IsStranger, SaysAsSent, StandsMachine, idle_peer_at, peer_at, settings_there}
-use Rattle.hub_machine.specs.IdleSet.{IsKept, is_awake_in, idle_peer_of}
+use Rattle.hub_machine.specs.IdleSet.{IsKept, is_awake_in, idle_peer_of, rounds_begun}
 use Rattle.hub_machine.specs.Calls.{doing}
 use Rattle.hub_machine.proofs.Open.{registry_agrees, registry_closed}
 
@@ -76,6 +77,10 @@ users_stay c (m ∷ ms) w = users_stay c ms w
 pub there_stay : (k c : ℕ) (ms : List PeerEvent) (w : List MachineEvent) → settings_there k (doing c ms w) ≡ settings_there k w
 there_stay k c ms w = ap (λ b. if b then None else settings_of k (doing c ms w)) (gone_stay k c ms w)
     ∙ ap (λ o. if has_gone k w then None else o) (settings_stay k c ms w)
+
+rounds_stay : (c : ℕ) (ms : List PeerEvent) (w : List MachineEvent) → rounds_begun (doing c ms w) ≡ rounds_begun w
+rounds_stay c [] w = refl
+rounds_stay c (m ∷ ms) w = rounds_stay c ms w
 
 -- its own moves come first
 pub moves_done : (c : ℕ) (ms : List PeerEvent) (w : List MachineEvent) → moves c (doing c ms w) ≡ ms ++ moves c w
@@ -259,6 +264,7 @@ module _ {H Job : Type 0} (hub : Hub Job) (old new : Machine H Job) (w : List Ma
   stands_with lists = record {
     at = λ k. at_each k (c == k) refl;
     index = index_stays old new keeps s.index;
+    rounds = ap (λ (i : IdleSet). i.clock.rounds) keeps.idle_set ∙ s.rounds ∙ sym (rounds_stay c ms w);
     registry = lists;
     peers = λ k o e. peers_each k o e (c == k) refl;
     said = λ k o e. said_each k o e (c == k) refl;

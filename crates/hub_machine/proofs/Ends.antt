@@ -13,6 +13,7 @@ use Rattle.hp_peer.specs.declared.peer.Peer.{Peer}
 use Rattle.hp_peer.specs.Stands.{OfEach, Stands}
 use Rattle.hub_machine.specs.declared.machine.Machine.{Machine}
 use Rattle.hub_machine.specs.declared.idle_set.IdlePeer.{IdlePeer}
+use Rattle.hub_machine.specs.declared.idle_set.IdleSet.{IdleSet}
 use Rattle.hub_machine.specs.Machines.{IsAsItWas, IsKeptAs, IsPeerOf, StandsMachine, idle_peer_at, peer_at, settings_there}
 use Rattle.hub_machine.specs.Calls.{ClosesOut, ClosesOutIf, doing}
 use Rattle.hub_machine.proofs.Doing.{KeepsIdleSet, PutsPeer, awake_is, index_stays, kept_stays, stands_closing, stands_on}
@@ -132,6 +133,7 @@ unchanged {H} hub old new peers keeps kept = record {
   stands = λ w s. record {
     at = λ c. kept_stays {H = H} hub old new c (settings_there c w) (moves c w) keeps.idle_set (peers c) (s.at c);
     index = index_stays old new keeps s.index;
+    rounds = ap (λ (i : IdleSet). i.clock.rounds) keeps.idle_set ∙ s.rounds;
     registry = subst (λ r. StandsRegistry r (registry w)) (sym kept) s.registry;
     peers = s.peers;
     said = s.said;

@@ -376,8 +376,8 @@ pub tells_all : {H Job : Type 0} (hub : Hub Job) (old new : Machine H Job) (to t
     → FatesAreRefusals → IsDistinct nat_eq to → m ≡ said target arguments → (IsTrue b ↔ Fits m) → b ≡ true
     → HasSpread {H = H} {Job = Job} hub old new to m → Tells {H = H} {Job = Job} hub old new to target arguments
 tells_all {H} {Job} hub old new to target arguments m b law distinct e fits is spreads a d notices up stands =
-    let s = spreads old [] (λ x f. (x, refl, f)) in
-    let led = s.2 a stands in
+    let s = spreads old [] (λ x f. (x, refl, f), refl) in
+    let led = s.2.0 a stands in
     let cs : List ℕ = map (λ x. x.0) s.1.answers in
     let lead : Lead (flat_map (delivering (said target arguments)) s.1.answers) a led.0 =
     subst (λ x. Lead (flat_map (delivering x) s.1.answers) a led.0) e (subst (λ ds. Lead ds a led.0) s.1.dealt led.1) in
@@ -387,6 +387,11 @@ tells_all {H} {Job} hub old new to target arguments m b law distinct e fits is s
     told_all law d target arguments notices (subst (λ x. Fits x) e (fits.0 is)) (codec_at {H = H} old) s.1.answers a led.0
     (subst (λ ks. IsDistinct nat_eq ks) (sym s.1.of_each) distinct) ready s.1.asked lead in
     (led.0, subst (λ ks. AreSame (told d (fates_in a ks target arguments) a) led.0) s.1.of_each all, led.2)
+
+-- and no time passed
+pub no_time : {H Job : Type 0} (hub : Hub Job) (old new : Machine H Job) (to : List ℕ) (m : Message) → HasSpread {H = H} {Job = Job} hub old new to m
+    → new.idle_set.clock ≡ old.idle_set.clock
+no_time hub old new to m spreads = (spreads old [] (λ x f. (x, refl, f), refl)).2.1
 
 -- what follows from what holds if it went well
 pub on_ok : {T E P Q : Type 0} (result : Result T E) → (P → Q) → OnOk result P → OnOk result Q

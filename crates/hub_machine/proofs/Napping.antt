@@ -99,6 +99,7 @@ module _ {H Job : Type 0} (hub : Hub Job) (old : Machine H Job) (c : ℕ) (idle_
         (λ k. settings_there k w) (λ k. moves k w) (λ k e. s.at k) here;
     index = index_changed {H = H} {Job = Job} old new c (Some idle_peer) false s.index changes refl (λ k. refl)
         (sym (and_false (is_some (peer_at old c))));
+    rounds = ap (λ (k : IdleClock). k.rounds) changes.clock ∙ s.rounds;
     registry = s.registry;
     peers = s.peers;
     said = s.said;

@@ -107,6 +107,7 @@ module _ {H Job : Type 0} (law : IdleTicksAreUnseen) (hub : Hub Job) (old : Mach
       awake = s.index.awake;
       room = s.index.room;
     };
+    rounds = s.rounds ∙ sym did.rounds;
     registry = subst (λ l. StandsRegistry old.registry l) (sym (registry_agrees w v did.joins did.users open_same)) s.registry;
     peers = λ c t e. let was = sym (did.settings c) ∙ e in subst (λ ms. IsPeer hub t ms) (sym (did.moved c))
         (peer_on {H = H} {Job = Job} hub then_clock now (idle_peer_at old c) (has_gone c w) (settings_of c w) t (moves c w) (peer_at old c) was

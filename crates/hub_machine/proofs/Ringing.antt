@@ -1,7 +1,7 @@
 -- The connections whose alarms have come wake, one after another.
 use Rattle.std.proofs.Common.{◌≡◌, ◌⊎◌, inl, inr, ℕ, ◌+◌, ◌<◌, ◌≤◌, ◌==◌, Bool, true, false, List, length, get_or, Option, Some, None, is_some}
 use Rattle.std.proofs.Common.{refl, sym, ap, subst, ◌∙◌, arith}
-use Rattle.std.proofs.lemmas.Bool.{cases_lt, eqb-true}
+use Rattle.std.proofs.lemmas.Bool.{cases_lt, eqb-true, false_from_ne_true, ne_eqb}
 use Rattle.hd_calls.specs.Hubs.{Hub}
 use Rattle.hd_calls.specs.Peers.{PeerEvent, Settings}
 use Rattle.hd_server.specs.Machine.{MachineEvent, moves}
@@ -9,23 +9,31 @@ use Rattle.hp_peer.specs.declared.peer.Peer.{Peer}
 use Rattle.hub_machine.specs.declared.machine.Machine.{Machine}
 use Rattle.hub_machine.specs.declared.idle_set.IdleClock.{IdleClock}
 use Rattle.hub_machine.specs.declared.idle_set.IdlePeer.{IdlePeer}
-use Rattle.hub_machine.specs.Machines.{IsKeptAs, StandsMachine, idle_peer_at, peer_at, settings_there}
+use Rattle.hub_machine.specs.Machines.{IsIndexed, IsKeptAs, StandsMachine, idle_peer_at, peer_at, settings_there}
 use Rattle.hub_machine.specs.IdleSet.{AreRung, deadline_in}
-use Rattle.hub_machine.specs.Sleeping.{NoneRings}
+use Rattle.hub_machine.specs.Sleeping.{NoneRings, SleepOn}
+use Rattle.hub_machine.specs.Spreads.{is_listed}
+use Rattle.hub_machine.proofs.Delivered.{not_at}
 use Rattle.hub_machine.proofs.Numbers.{listed_at}
 
 -- it doesn't sleep, or isn't there
 abbrev pub IsUp : {H Job : Type 0} → Machine H Job → ℕ → Type 0
 IsUp m k = (idle_peer_at m k ≡ None) ⊎ (peer_at m k ≡ None)
 
--- the first of these connections are awake, and nobody fell asleep
+-- the first of these connections are awake, nobody fell asleep, and the others sleep on
 pub record WokenSoFar {H Job : Type 0} (hub : Hub Job) (old now : Machine H Job) (conns : List ℕ) (i : ℕ) : Type 0 where
   pub stands : (w : List MachineEvent) → StandsMachine hub old w → StandsMachine hub now w
   pub idle_peers : (k : ℕ) → (idle_peer_at now k ≡ None) ⊎ (idle_peer_at now k ≡ idle_peer_at old k)
   pub woken : (j : ℕ) → j < i → IsUp now (get_or conns j 0)
+  pub others : (k : ℕ) → is_listed k conns ≡ false → idle_peer_at now k ≡ idle_peer_at old k
 
 pub none_woken : {H Job : Type 0} (hub : Hub Job) (m : Machine H Job) (conns : List ℕ) → WokenSoFar {H = H} hub m m conns 0
-none_woken hub m conns = record { stands = λ w s. s; idle_peers = λ k. inr refl; woken = λ j l. absurd (omega (arith, l)) }
+none_woken hub m conns = record {
+  stands = λ w s. s;
+  idle_peers = λ k. inr refl;
+  woken = λ j l. absurd (omega (arith, l));
+  others = λ k e. refl;
+}
 
 -- what a call of `wake` says
 pub record Wakes {H Job : Type 0} (hub : Hub Job) (now new : Machine H Job) (c : ℕ) : Type 0 where
@@ -35,7 +43,7 @@ pub record Wakes {H Job : Type 0} (hub : Hub Job) (now new : Machine H Job) (c :
   pub there : is_some (peer_at new c) ≡ is_some (peer_at now c)
   pub absent : peer_at now c ≡ None → new ≡ now
 
-module _ {H Job : Type 0} (hub : Hub Job) (old now new : Machine H Job) (conns : List ℕ) (i c : ℕ) (is : c ≡ get_or conns i 0)
+module _ {H Job : Type 0} (hub : Hub Job) (old now new : Machine H Job) (conns : List ℕ) (i c : ℕ) (is : c ≡ get_or conns i 0) (within : i < length conns)
     (wakes : Wakes {H = H} hub now new c) (so_far : WokenSoFar {H = H} hub old now conns i) where
   -- its nap has ended, or there is none of it
   own : (idle_peer_at new c ≡ None) ⊎ (idle_peer_at new c ≡ idle_peer_at old c)
@@ -69,6 +77,7 @@ module _ {H Job : Type 0} (hub : Hub Job) (old now new : Machine H Job) (conns :
       | inr m ↦ let last : j ≡ i = omega (arith, l, m) in
           subst (λ n. IsUp {H = H} new n) (is ∙ ap (λ n. get_or conns n 0) (sym last)) wakes.awake
     ];
+    others = λ k e. (wakes.others k (ne_eqb c k (λ f. not_at k conns i within e (sym f ∙ is)))).1 ∙ so_far.others k e;
   }
 
 -- one that sleeps is there
@@ -91,10 +100,18 @@ none_rings {H} {Job} hub old new conns i now w all rung so_far s c moment e = el
     late l = elim (so_far.idle_peers c) [
       | inl f ↦ (let z : ◌≡◌ {A = Option ℕ} None (Some moment) = sym (ap deadline_in f) ∙ e in cc)
       | inr f ↦
-          let at = listed_at c conns (rung c moment (s.index.kept.set c moment (sym (ap deadline_in f) ∙ e)) l) in
+          let at = listed_at c conns (rung.all c moment (s.index.kept.set c moment (sym (ap deadline_in f) ∙ e)) l) in
           elim (subst (λ n. IsUp {H = H} new n) (sym at.2) (so_far.woken at.0 (omega (arith, at.1, all)))) [
             | inl g ↦ (let z : ◌≡◌ {A = Option ℕ} None (Some moment) = sym (ap deadline_in g) ∙ e in cc)
             | inr g ↦ asleep_there {H = H} {Job = Job} hub new.idle_set.clock (idle_peer_at new c) (settings_there c w) (moves c w) (peer_at new c)
                 moment e g ((so_far.stands w s).at c)
           ]
     ]
+
+-- no others have woken
+pub sleep_on : {H Job : Type 0} (hub : Hub Job) (old new : Machine H Job) (conns : List ℕ) (i now : ℕ) → AreRung old.idle_set now conns
+    → IsIndexed {H = H} old → WokenSoFar {H = H} hub old new conns i → SleepOn {H = H} old new now
+sleep_on hub old new conns i now rung index so_far c early = so_far.others c (false_from_ne_true (is_listed c conns) (λ e.
+    let at = rung.only c e in
+    let later = early at.0 (index.kept.only c at.0 at.1) in
+    omega (arith, later, at.2)))

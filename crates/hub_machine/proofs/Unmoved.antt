@@ -14,9 +14,10 @@ use Rattle.hp_peer.specs.declared.peer.Peer.{Peer}
 use Rattle.hub_machine.specs.declared.machine.Machine.{Machine}
 use Rattle.hub_machine.specs.declared.idle_set.IdleClock.{IdleClock}
 use Rattle.hub_machine.specs.declared.idle_set.IdlePeer.{IdlePeer}
+use Rattle.hub_machine.specs.declared.idle_set.IdleSet.{IdleSet}
 use Rattle.hub_machine.specs.Machines.{IsIndexed, IsKeptAs, SaysAsSent, StandsMachine, idle_peer_at, peer_at, settings_there}
 use Rattle.hub_machine.specs.Rounds.{AreNumbers, AreRising, HasBegun}
-use Rattle.hub_machine.specs.IdleSet.{after_round, idle_peer_of}
+use Rattle.hub_machine.specs.IdleSet.{after_round, idle_peer_of, one_round_more}
 use Rattle.hub_machine.specs.Spreads.{is_listed}
 use Rattle.hub_machine.proofs.Delivered.{not_at}
 use Rattle.hub_machine.proofs.Doing.{KeepsIdleSet, index_stays}
@@ -106,6 +107,7 @@ pub rounds_stand : {H Job : Type 0} (hub : Hub Job) (old new : Machine H Job) (w
 rounds_stand {H} {Job} hub old new w now was began = record {
   at = at;
   index = index_counted {H = H} {Job = Job} new (index_stays old new began.keeps was.index);
+  rounds = ap (λ (i : IdleSet). one_round_more i.clock.rounds) began.keeps.idle_set ∙ ap (λ n. one_round_more n) was.rounds;
   registry = subst (λ r. StandsRegistry r (registry (Rounds now ∷ w))) (sym began.registry)
       (subst (StandsRegistry old.registry) (sym same) was.registry);
   peers = λ c t e. peers_at {H = H} hub (after_round new.idle_set.clock) (idle_peer_at new c) t (has_gone c w) (settings_of c w) (peer_at new c) (moves c w) e

@@ -1,5 +1,5 @@
 -- A connection wakes: its peer stands for all that it did, and all else is as it was.
-use Rattle.std.proofs.Common.{◌≡◌, ℕ, Bool, true, ◌&&◌, List, Option, Some, None, is_some, refl, sym, ap, subst}
+use Rattle.std.proofs.Common.{◌≡◌, ℕ, Bool, true, ◌&&◌, List, Option, Some, None, is_some, refl, sym, ap, subst, ◌∙◌}
 use Rattle.std.specs.Ordering.{nat_cmp}
 use Rattle.std.specs.BTreeMap.{BTreeMap, WritesThrough}
 use Rattle.hd_calls.specs.Hubs.{Hub}
@@ -62,6 +62,7 @@ module _ {H Job : Type 0} (hub : Hub Job) (old : Machine H Job) (c : ℕ) (p q :
   woke w s = record {
     at = kept s.index (λ k. settings_there k w) (λ k. moves k w) s.at;
     index = indexed s.index;
+    rounds = ap (λ (k : IdleClock). k.rounds) (changes s.index).clock ∙ s.rounds;
     registry = s.registry;
     peers = s.peers;
     said = s.said;

@@ -91,6 +91,7 @@ abbrev pub Lead : List Delivering → MachineView → MachineView → Type 0
 Lead [] a b = b ≡ a
 Lead (d ∷ ds) a b = (mid : MachineView) × LeadsBy d a mid × Lead ds mid b
 
--- with these dealings the machine goes from what it stood for to what they lead to
+-- with these dealings the machine goes from what it stood for to what they lead to, while no time passes
 abbrev pub Delivers : {H Job : Type 0} → Hub Job → Machine H Job → List Delivering → Machine H Job → Type 0
-Delivers hub old deals new = (a : MachineView) → StandsFor hub old a → (b : MachineView) × Lead deals a b × StandsFor hub new b
+Delivers hub old deals new =
+    ((a : MachineView) → StandsFor hub old a → (b : MachineView) × Lead deals a b × StandsFor hub new b) × (new.idle_set.clock ≡ old.idle_set.clock)

@@ -1,11 +1,12 @@
 -- Which connections sleep, and which are awake.
-use Rattle.std.specs.Prelude.{◌≡◌, ◌≤◌, ◌==◌, ◌+◌, ℕ, nat_lt, Bool, true, List, Option, Some, None, if◌then◌else◌}
+use Rattle.std.specs.Prelude.{◌≡◌, ◌≤◌, ◌==◌, ◌+◌, ℕ, nat_lt, Bool, true, List, [], ◌∷◌, Option, Some, None, if◌then◌else◌}
 use Rattle.std.specs.declared.cmp.Ordering.{Ordering}
 use Rattle.std.specs.Ordering.{nat_cmp, ordering_then}
 use Rattle.std.specs.BTreeMap.{get}
 use Rattle.std.specs.BTreeSet.{contains}
 use Rattle.std.specs.Vec.{vec_capacity}
 use Rattle.hd_delivery.specs.Numbers.{most_of_64_bits}
+use Rattle.hd_server.specs.Machine.{MachineEvent, Rounds}
 use Rattle.hv_value.specs.SortedSet.{IsRising, is_in}
 use Rattle.hub_machine.specs.declared.idle_set.Deadline.{Deadline}
 use Rattle.hub_machine.specs.declared.idle_set.IdleClock.{IdleClock}
@@ -47,9 +48,23 @@ pub record Changes (old new : IdleSet) (c : ℕ) (idle_peer : Option IdlePeer) (
   pub capacity : vec_capacity old.awake.numbers ≤ vec_capacity new.awake.numbers
 
 -- one round more has begun, as far as 64 bits count
-abbrev pub after_round : IdleClock → IdleClock
-after_round clock = record clock { rounds = if nat_lt clock.rounds most_of_64_bits then clock.rounds + 1 else clock.rounds }
+abbrev pub one_round_more : ℕ → ℕ
+one_round_more n = if nat_lt n most_of_64_bits then n + 1 else n
 
--- these are those whose alarms have come at the moment
-abbrev pub AreRung : IdleSet → ℕ → List ℕ → Type 0
-AreRung s now conns = (c moment : ℕ) → is_set_in s moment c ≡ true → moment ≤ now → is_listed c conns ≡ true
+abbrev pub after_round : IdleClock → IdleClock
+after_round clock = record clock { rounds = one_round_more clock.rounds }
+
+-- how many rounds have begun, as far as 64 bits count
+abbrev pub rounds_begun : List MachineEvent → ℕ
+rounds_begun [] = 0
+rounds_begun (Rounds now ∷ w) = one_round_more (rounds_begun w)
+rounds_begun (_ ∷ w) = rounds_begun w
+
+-- the clock of those that sleep at this moment, after these happenings
+abbrev pub clock_at : ℕ → List MachineEvent → IdleClock
+clock_at now w = record { moment = now; rounds = rounds_begun w }
+
+-- these are those whose alarms have come at the moment, and no others
+pub record AreRung (s : IdleSet) (now : ℕ) (conns : List ℕ) : Type 0 where
+  pub all : (c moment : ℕ) → is_set_in s moment c ≡ true → moment ≤ now → is_listed c conns ≡ true
+  pub only : (c : ℕ) → is_listed c conns ≡ true → (moment : ℕ) × (is_set_in s moment c ≡ true) × (moment ≤ now)

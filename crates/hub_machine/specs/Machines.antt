@@ -21,7 +21,7 @@ use Rattle.hp_peer.specs.Stands.{Stands}
 use Rattle.hub_machine.specs.declared.machine.Machine.{Machine}
 use Rattle.hub_machine.specs.declared.idle_set.IdleClock.{IdleClock}
 use Rattle.hub_machine.specs.declared.idle_set.IdlePeer.{IdlePeer}
-use Rattle.hub_machine.specs.IdleSet.{IsKept, is_awake_in, idle_peer_of}
+use Rattle.hub_machine.specs.IdleSet.{IsKept, is_awake_in, idle_peer_of, rounds_begun}
 
 -- the peer of a connection
 abbrev pub peer_at : {H Job : Type 0} → Machine H Job → ℕ → Option (Peer H Job)
@@ -125,6 +125,7 @@ AllSayAsSent w = (c : ℕ) (t : Settings) → settings_of c w ≡ Some t → Say
 pub record StandsMachine {H Job : Type 0} (hub : Hub Job) (m : Machine H Job) (w : List MachineEvent) : Type 0 where
   pub at : (c : ℕ) → IsKeptAs hub m.idle_set.clock (idle_peer_at m c) (settings_there c w) (moves c w) (peer_at m c)
   pub index : IsIndexed m
+  pub rounds : m.idle_set.clock.rounds ≡ rounds_begun w
   pub registry : StandsRegistry m.registry (registry w)
   pub peers : ArePeers hub w
   pub said : AllSayAsSent w

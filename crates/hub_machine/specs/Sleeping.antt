@@ -12,7 +12,7 @@ use Rattle.hub_machine.specs.declared.machine.Machine.{Machine}
 use Rattle.hub_machine.specs.declared.idle_set.IdleClock.{IdleClock}
 use Rattle.hub_machine.specs.declared.idle_set.IdlePeer.{IdlePeer}
 use Rattle.hub_machine.specs.Machines.{CannotSleep, MaySleep, idle_peer_at, peer_at, settings_there}
-use Rattle.hub_machine.specs.IdleSet.{deadline_in}
+use Rattle.hub_machine.specs.IdleSet.{deadline_in, rounds_begun}
 
 -- the connection is awake, and may have this nap
 pub record IsDrowsy {H Job : Type 0} (m : Machine H Job) (c : ℕ) (idle_peer : IdlePeer) (t : Settings) (h : List PeerEvent) : Type 0 where
@@ -44,6 +44,11 @@ pub record KeepsOthers {H Job : Type 0} (old new : Machine H Job) (c : ℕ) : Ty
 abbrev pub NoneRings : {H Job : Type 0} → Machine H Job → ℕ → Type 0
 NoneRings m now = (c moment : ℕ) → deadline_in (idle_peer_at m c) ≡ Some moment → now < moment
 
+-- those whose alarms haven't come, and those that have none, sleep on
+abbrev pub SleepOn : {H Job : Type 0} → Machine H Job → Machine H Job → ℕ → Type 0
+SleepOn old new now = (c : ℕ) → ((moment : ℕ) → deadline_in (idle_peer_at old c) ≡ Some moment → now < moment)
+    → idle_peer_at new c ≡ idle_peer_at old c
+
 -- no end did anything after the moment
 abbrev pub AreTimely : ℕ → List MachineEvent → Type 0
 AreTimely now w = (c : ℕ) (t : Settings) → settings_there c w ≡ Some t → of.moment (steps t (moves c w)) ≤ now
@@ -55,3 +60,4 @@ pub record HasPassed {H Job : Type 0} (m : Machine H Job) (now : ℕ) (w v : Lis
   pub moved : (c : ℕ) → moves c v ≡ (if is_some (deadline_in (idle_peer_at m c)) then Plain (Step_of (Ticked now)) ∷ moves c w else moves c w)
   pub joins : joined v ≡ joined w
   pub users : user_pairs v ≡ user_pairs w
+  pub rounds : rounds_begun v ≡ rounds_begun w

@@ -45,6 +45,7 @@ impl<H: Hub> Machine<H> {
             StandsMachine (meaning H.begin_of H.step_of) self.old r → IsCarried (meaning H.begin_of H.step_of) self.new
             (keeper_state (K.holds keeper.old) (K.answers keeper.old) (K.faults keeper.old) steps.old)
             (keeper_state (K.holds keeper.new) (K.answers keeper.new) (K.faults keeper.new) steps.new) r conn j deed) }
+        ensures clock { OnOk result (self.new.idle_set.clock ≡ self.old.idle_set.clock) }
         ensures faultless { OnErr result (K.faults keeper.new ≡ K.faults keeper.old) }
     {
         match deed {
@@ -70,8 +71,9 @@ impl<H: Hub> Machine<H> {
 
     /// The connection joins a group, if it may.
     fn join(&mut self, alloc: Global, conn: u64, job: u64, group: &Text) -> Result<(), AllocError>
-        ensures { OnOk result ((r : List MachineEvent) (j : ℕ) → job ≡ suc j → owed r ≡ OwesDeed conn j (deed.Join group.now) → is_there conn r ≡ true →
+        ensures carried { OnOk result ((r : List MachineEvent) (j : ℕ) → job ≡ suc j → owed r ≡ OwesDeed conn j (deed.Join group.now) → is_there conn r ≡ true →
             StandsMachine (meaning H.begin_of H.step_of) self.old r → IsCarriedAlone (meaning H.begin_of H.step_of) self.new r conn j (deed.Join group.now)) }
+        ensures clock { OnOk result (self.new.idle_set.clock ≡ self.old.idle_set.clock) }
     {
         let may = self.registry.join(alloc, group, conn)?;
         if !may {
@@ -84,8 +86,9 @@ impl<H: Hub> Machine<H> {
 
     /// It leaves one.
     fn leave(&mut self, conn: u64, job: u64, group: &Text)
-        ensures { (r : List MachineEvent) (j : ℕ) → job ≡ suc j → owed r ≡ OwesDeed conn j (deed.Leave group.now) → is_there conn r ≡ true →
+        ensures carried { (r : List MachineEvent) (j : ℕ) → job ≡ suc j → owed r ≡ OwesDeed conn j (deed.Leave group.now) → is_there conn r ≡ true →
             StandsMachine (meaning H.begin_of H.step_of) self.old r → IsCarriedAlone (meaning H.begin_of H.step_of) self.new r conn j (deed.Leave group.now) }
+        ensures clock { self.new.idle_set.clock ≡ self.old.idle_set.clock }
     {
         let _was_there = self.registry.remove(group, conn);
         self.answer(conn, job, Input::Done(Value::Null));
@@ -102,9 +105,10 @@ impl<H: Hub> Machine<H> {
         target: Text,
         arguments: Items,
     ) -> Result<(), AllocError>
-        ensures { OnOk result ((r : List MachineEvent) (j : ℕ) → job ≡ suc j → owed r ≡ OwesDeed conn j (deed.Post group.now target arguments) →
+        ensures carried { OnOk result ((r : List MachineEvent) (j : ℕ) → job ≡ suc j → owed r ≡ OwesDeed conn j (deed.Post group.now target arguments) →
             is_there conn r ≡ true → StandsMachine (meaning H.begin_of H.step_of) self.old r →
             IsCarriedSpelling (meaning H.begin_of H.step_of) self.new steps.old steps.new r conn j (deed.Post group.now target arguments)) }
+        ensures clock { OnOk result (self.new.idle_set.clock ≡ self.old.idle_set.clock) }
     {
         let to = self.registry.members(alloc, group)?;
         self.notify(alloc, steps, &to, target, arguments)?;
@@ -123,9 +127,10 @@ impl<H: Hub> Machine<H> {
         target: Text,
         arguments: Items,
     ) -> Result<(), AllocError>
-        ensures { OnOk result ((r : List MachineEvent) (j : ℕ) → job ≡ suc j → owed r ≡ OwesDeed conn j (deed.Tell user.now target arguments) →
+        ensures carried { OnOk result ((r : List MachineEvent) (j : ℕ) → job ≡ suc j → owed r ≡ OwesDeed conn j (deed.Tell user.now target arguments) →
             is_there conn r ≡ true → StandsMachine (meaning H.begin_of H.step_of) self.old r →
             IsCarriedSpelling (meaning H.begin_of H.step_of) self.new steps.old steps.new r conn j (deed.Tell user.now target arguments)) }
+        ensures clock { OnOk result (self.new.idle_set.clock ≡ self.old.idle_set.clock) }
     {
         let to = self.registry.of_user(alloc, user)?;
         self.notify(alloc, steps, &to, target, arguments)?;
@@ -148,6 +153,7 @@ impl<H: Hub> Machine<H> {
             IsCarried (meaning H.begin_of H.step_of) self.new
             (keeper_state (K.holds keeper.old) (K.answers keeper.old) (K.faults keeper.old) spelled)
             (keeper_state (K.holds keeper.new) (K.answers keeper.new) (K.faults keeper.new) spelled) r conn j (deed.Log room.now text.now)) }
+        ensures clock { OnOk result (self.new.idle_set.clock ≡ self.old.idle_set.clock) }
         ensures faultless { OnErr result (K.faults keeper.new ≡ K.faults keeper.old) }
     {
         let Some(peer) = self.peers.get(&conn) else {
@@ -181,6 +187,7 @@ impl<H: Hub> Machine<H> {
             IsCarried (meaning H.begin_of H.step_of) self.new
             (keeper_state (K.holds keeper.old) (K.answers keeper.old) (K.faults keeper.old) spelled)
             (keeper_state (K.holds keeper.new) (K.answers keeper.new) (K.faults keeper.new) spelled) r conn j (deed.History room.now most)) }
+        ensures clock { OnOk result (self.new.idle_set.clock ≡ self.old.idle_set.clock) }
         ensures faultless { OnErr result (K.faults keeper.new ≡ K.faults keeper.old) }
     {
         match keeper.history(alloc, room, most) {
@@ -199,8 +206,9 @@ impl<H: Hub> Machine<H> {
 
     /// Tells a job what came of its deed.
     fn answer(&mut self, conn: u64, job: u64, input: Input)
-        ensures { (a : MachineView) (j : ℕ) → job ≡ suc j → AnswersAt (a.settings conn) j input (a.moves conn) →
+        ensures answered { (a : MachineView) (j : ℕ) → job ≡ suc j → AnswersAt (a.settings conn) j input (a.moves conn) →
             StandsFor (meaning H.begin_of H.step_of) self.old a → StandsFor (meaning H.begin_of H.step_of) self.new (moved conn (Answers j input) a) }
+        ensures clock { self.new.idle_set.clock ≡ self.old.idle_set.clock }
     {
         self.wake(conn);
         if let Some(peer) = self.peers.get_mut(&conn) {
@@ -221,6 +229,7 @@ impl<H: Hub> Machine<H> {
         requires once { IsDistinct nat_eq to.now }
         ensures told { OnOk result ((a : MachineView) (d : DeedMeant) → NoticesOf d target arguments → AreUp a to.now →
             StandsFor (meaning H.begin_of H.step_of) self.old a → (b : MachineView) × AreSame (told d (fates_in a to.now target arguments) a) b × StandsFor (meaning H.begin_of H.step_of) self.new b) }
+        ensures clock { OnOk result (self.new.idle_set.clock ≡ self.old.idle_set.clock) }
         ensures cost { steps.new ≤ steps.old + codecs_among (codec_at self.old) to.now }
     {
         hd_server::fates_are_refusals();

@@ -51,6 +51,7 @@ impl IdleSet {
         ensures unchanged { IsKept result }
         ensures awake { (k : ℕ) → is_awake_in result k ≡ false }
         ensures idle_peers { (k : ℕ) → idle_peer_of result k ≡ None }
+        ensures rounds { result.clock.rounds ≡ 0 }
     {
         IdleSet {
             awake: SortedSet::start(alloc),

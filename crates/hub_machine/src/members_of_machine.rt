@@ -14,7 +14,7 @@ use hm_message::{Codec, Message};
 impl<H: Hub> Members for Machine<H> {
     ghost Delivers = { Delivers (meaning H.begin_of H.step_of) };
 
-    ghost starts = { λ s a f. (a, refl, f) };
+    ghost starts = { λ s. (λ a f. (a, refl, f), refl) };
 
     ghost codec_of = { codec_at };
 

@@ -32,9 +32,10 @@ impl<H: Hub> Machine<H> {
         steps: &mut Steps<L>,
         now: u64,
     ) -> Result<(), AllocError>
-        ensures { OnOk result ((w : List MachineEvent) → StandsMachine (meaning H.begin_of H.step_of) self.old w → HasRound (meaning H.begin_of H.step_of) self.new
+        ensures turned { OnOk result ((w : List MachineEvent) → StandsMachine (meaning H.begin_of H.step_of) self.old w → HasRound (meaning H.begin_of H.step_of) self.new
             (keeper_state (K.holds keeper.old) (K.answers keeper.old) (K.faults keeper.old) steps.old)
             (keeper_state (K.holds keeper.new) (K.answers keeper.new) (K.faults keeper.new) steps.new) now w) }
+        ensures moment { OnOk result (self.new.idle_set.clock.moment ≡ self.old.idle_set.clock.moment) }
     {
         hd_rooms::answers_join();
         turns_are_tested();
@@ -78,8 +79,9 @@ impl<H: Hub> Machine<H> {
 
     /// A round begins at each of these, which are all that are awake. At the others no job has a turn in it.
     fn begin_rounds(&mut self, conns: &[u64])
-        ensures { (w : List MachineEvent) (now : ℕ) → AreNumbers self.old conns.now → StandsMachine (meaning H.begin_of H.step_of) self.old w →
+        ensures begun { (w : List MachineEvent) (now : ℕ) → AreNumbers self.old conns.now → StandsMachine (meaning H.begin_of H.step_of) self.old w →
             StandsMachine (meaning H.begin_of H.step_of) self.new (Rounds now ∷ w) }
+        ensures moment { self.new.idle_set.clock.moment ≡ self.old.idle_set.clock.moment }
     {
         for &conn in conns {
             self.begin_round_at(conn);
@@ -110,10 +112,11 @@ impl<H: Hub> Machine<H> {
         conn: u64,
         now: u64,
     ) -> Result<(), AllocError>
-        ensures { OnOk result ((w r : List MachineEvent) → StandsMachine (meaning H.begin_of H.step_of) self.old r → InRound now w r conn →
+        ensures turned { OnOk result ((w r : List MachineEvent) → StandsMachine (meaning H.begin_of H.step_of) self.old r → InRound now w r conn →
             HasTurned (meaning H.begin_of H.step_of) self.new
             (keeper_state (K.holds keeper.old) (K.answers keeper.old) (K.faults keeper.old) steps.old)
             (keeper_state (K.holds keeper.new) (K.answers keeper.new) (K.faults keeper.new) steps.new) now w r conn) }
+        ensures clock { OnOk result (self.new.idle_set.clock ≡ self.old.idle_set.clock) }
     {
         // Each deed takes the round past one job more, so after as many deeds as there are jobs none is left.
         hd_rooms::answers_join();
@@ -145,8 +148,9 @@ impl<H: Hub> Machine<H> {
         conn: u64,
         now: u64,
     ) -> Result<Option<(u64, Deed)>, AllocError>
-        ensures { IfOk result (λ found. (w r : List MachineEvent) → StandsMachine (meaning H.begin_of H.step_of) self.old r → InRound now w r conn →
+        ensures stepped { IfOk result (λ found. (w r : List MachineEvent) → StandsMachine (meaning H.begin_of H.step_of) self.old r → InRound now w r conn →
             StepsTo (meaning H.begin_of H.step_of) self.new now w r conn found) }
+        ensures clock { OnOk result (self.new.idle_set.clock ≡ self.old.idle_set.clock) }
     {
         turns_are_tested();
         self.ensure_awake(conn);

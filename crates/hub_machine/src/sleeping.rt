@@ -15,7 +15,7 @@ ghost use Rattle.hub_machine.specs.MachineView.{MachineView, StandsFor};
 ghost use Rattle.hub_machine.specs.Delivers.{codec_at};
 ghost use Rattle.hub_machine.specs.Machines.{IsAtRest, IsIndexed, OfConn, Sleeps, StandsMachine, is_awake_at, idle_peer_at, peer_at};
 ghost use Rattle.hub_machine.specs.Rounds.{AreNumbers};
-ghost use Rattle.hub_machine.specs.Sleeping.{AreTimely, HasPassed, IsDrowsy, IsNapOf, IsUpWithCause, KeepsOthers, NoneRings};
+ghost use Rattle.hub_machine.specs.Sleeping.{AreTimely, HasPassed, IsDrowsy, IsNapOf, IsUpWithCause, KeepsOthers, NoneRings, SleepOn};
 
 use crate::idle_set::{IdleClock, IdlePeer};
 use crate::machine::Machine;
@@ -98,10 +98,11 @@ impl<H: Hub> Machine<H> {
         })
     }
 
-    /// The connections whose alarms have come wake.
+    /// The connections whose alarms have come wake, and no others.
     pub fn wake_expired(&mut self, alloc: Global, now: u64) -> Result<(), AllocError>
         ensures stands { OnOk result ((w : List MachineEvent) → StandsMachine (meaning H.begin_of H.step_of) self.old w → StandsMachine (meaning H.begin_of H.step_of) self.new w) }
         ensures rung { OnOk result ((w : List MachineEvent) → StandsMachine (meaning H.begin_of H.step_of) self.old w → NoneRings self.new now) }
+        ensures others { OnOk result (IsIndexed self.old → SleepOn self.old self.new now) }
     {
         let conns = self.idle_set.rung(alloc, now)?;
         for &conn in &conns {
@@ -115,6 +116,7 @@ impl<H: Hub> Machine<H> {
         ensures passed { (w v : List MachineEvent) → StandsMachine (meaning H.begin_of H.step_of) self.old w → NoneRings self.old now → AreTimely now w →
             HasPassed self.old now w v → StandsMachine (meaning H.begin_of H.step_of) self.new v }
         ensures awake { (k : ℕ) → is_awake_at self.new k ≡ is_awake_at self.old k }
+        ensures moment { self.new.idle_set.clock.moment ≡ now }
     {
         idle_ticks();
         self.idle_set.clock.moment = now;

@@ -106,6 +106,7 @@ impl<H: Hub> Machine<H> {
         ensures ticked { OfConn (meaning H.begin_of H.step_of) self.old conn (λ w t h. of.moment (steps t h) ≤ now →
             HasTicked (meaning H.begin_of H.step_of) self.new conn w t h now result) }
         ensures absent { peer_at self.old conn ≡ Absent → (result ≡ Absent) × (self.new ≡ self.old) }
+        ensures clock { self.new.idle_set.clock ≡ self.old.idle_set.clock }
     {
         self.ensure_awake(conn);
         let Some(peer) = self.peers.get_mut(&conn) else {

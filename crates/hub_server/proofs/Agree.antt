@@ -21,6 +21,7 @@ use Rattle.hd_server.specs.Plans.{Setup, onto}
 use Rattle.hd_server.specs.Parts.{Each, IsOfAny, IsTick}
 use Rattle.hub_machine.specs.declared.machine.Machine.{Machine}
 use Rattle.hub_server.specs.declared.server.Server.{Server}
+use Rattle.hub_machine.specs.IdleSet.{rounds_begun}
 use Rattle.hub_machine.specs.Machines.{IsKeptAs, IsStranger, SaysAsSent, StandsMachine, idle_peer_at, peer_at, settings_there}
 use Rattle.hub_server.specs.Lanes.{Unsettled, is_at, poll_lane}
 use Rattle.hub_server.specs.Servers.{IsOrderly, Standing, caller_of, StandsFront}
@@ -33,6 +34,7 @@ pub record SameButMoves (g h : List ServerEvent) : Type 0 where
   pub gone : (c : ℕ) → has_gone c (work g) ≡ has_gone c (work h)
   pub joins : joined (work g) ≡ joined (work h)
   pub users : user_pairs (work g) ≡ user_pairs (work h)
+  pub rounds : rounds_begun (work g) ≡ rounds_begun (work h)
   pub noted : notes g ≡ notes h
   pub clock : moment g ≡ moment h
   pub words : said g ≡ said h
@@ -45,6 +47,7 @@ same_but_moves_refl h = record {
   gone = λ c. refl;
   joins = refl;
   users = refl;
+  rounds = refl;
   noted = refl;
   clock = refl;
   words = refl;
@@ -58,6 +61,7 @@ same_but_moves_trans f g h x y = record {
   gone = λ c. x.gone c ∙ y.gone c;
   joins = x.joins ∙ y.joins;
   users = x.users ∙ y.users;
+  rounds = x.rounds ∙ y.rounds;
   noted = x.noted ∙ y.noted;
   clock = x.clock ∙ y.clock;
   words = x.words ∙ y.words;
@@ -112,6 +116,7 @@ machine_agrees {H} hub m g h x s = let r : SameButMoves g h = x.rest in record {
       subst (λ o. IsKeptAs {H = H} hub m.idle_set.clock (idle_peer_at m c) o (moves c (work g)) (peer_at m c)) (sym (there_same c g h r))
       (subst (λ ms. IsKeptAs {H = H} hub m.idle_set.clock (idle_peer_at m c) (settings_there c (work h)) ms (peer_at m c)) (sym (x.moved c)) (s.at c));
   index = s.index;
+  rounds = s.rounds ∙ sym r.rounds;
   registry = subst (λ l. StandsRegistry m.registry l) (sym (registry_same g h x)) s.registry;
   peers = λ c t e. subst (λ ms. IsPeer hub t ms) (sym (x.moved c)) (s.peers c t (sym (r.settings c) ∙ e));
   said = λ c t e. subst (λ ms. SaysAsSent t ms) (sym (x.moved c)) (s.said c t (sym (r.settings c) ∙ e));
@@ -175,6 +180,7 @@ agree_on c (Works (Does k m)) g h p x = let r : SameButMoves g h = x.rest in rec
     gone = r.gone;
     joins = r.joins;
     users = r.users;
+    rounds = r.rounds;
     noted = r.noted;
     clock = r.clock;
     words = r.words;
@@ -189,6 +195,7 @@ agree_on c (Works (Goes k)) g h p x = let r : SameButMoves g h = x.rest in recor
     gone = λ j. ap (λ (b : Bool). (j == k) || b) (r.gone j);
     joins = r.joins;
     users = r.users;
+    rounds = r.rounds;
     noted = r.noted;
     clock = r.clock;
     words = r.words;
@@ -203,6 +210,7 @@ agree_on c (Notes (LaneLost k lane now)) g h p x = let r : SameButMoves g h = x.
     gone = r.gone;
     joins = r.joins;
     users = r.users;
+    rounds = r.rounds;
     noted = ap (λ (n : List ConnectionEvent). LaneLost k lane now ∷ n) r.noted;
     clock = r.clock;
     words = r.words;
@@ -217,6 +225,7 @@ agree_on c (Notes (Removed k)) g h p x = let r : SameButMoves g h = x.rest in re
     gone = r.gone;
     joins = r.joins;
     users = r.users;
+    rounds = r.rounds;
     noted = ap (λ (n : List ConnectionEvent). Removed k ∷ n) r.noted;
     clock = r.clock;
     words = r.words;
@@ -231,6 +240,7 @@ agree_on c (Says (say.Shut lane)) g h p x = let r : SameButMoves g h = x.rest in
     gone = r.gone;
     joins = r.joins;
     users = r.users;
+    rounds = r.rounds;
     noted = r.noted;
     clock = r.clock;
     words = ap (λ (ws : List Said). ws ++ say.Shut lane ∷ []) r.words;
@@ -262,6 +272,7 @@ agree_swap c k (Works (Does j x)) m h e p = record {
     gone = λ i. refl;
     joins = refl;
     users = refl;
+    rounds = refl;
     noted = refl;
     clock = refl;
     words = refl;
@@ -277,6 +288,7 @@ agree_swap c k (Works (Goes j)) m h e p = record {
     gone = λ i. refl;
     joins = refl;
     users = refl;
+    rounds = refl;
     noted = refl;
     clock = refl;
     words = refl;
@@ -291,6 +303,7 @@ agree_swap c k (Notes (LaneLost j lane now)) m h e p = record {
     gone = λ i. refl;
     joins = refl;
     users = refl;
+    rounds = refl;
     noted = refl;
     clock = refl;
     words = refl;
@@ -305,6 +318,7 @@ agree_swap c k (Notes (Removed j)) m h e p = record {
     gone = λ i. refl;
     joins = refl;
     users = refl;
+    rounds = refl;
     noted = refl;
     clock = refl;
     words = refl;
@@ -319,6 +333,7 @@ agree_swap c k (Says (say.Shut lane)) m h e p = record {
     gone = λ i. refl;
     joins = refl;
     users = refl;
+    rounds = refl;
     noted = refl;
     clock = refl;
     words = refl;

@@ -95,11 +95,13 @@ pub record ToldSome {H Job : Type 0} (hub : Hub Job) (s : Setup) (before : List 
   pub rested : (k : ℕ) → is_listed k done ≡ true → IsRested k (onto (all_flushing s (moment h) done pieces h) h)
   pub others : (k : ℕ) → is_listed k done ≡ false → Alike k (onto (all_flushing s (moment h) done pieces h) h) h
   pub cause : (k : ℕ) → is_listed k left ≡ false → may_speak k (onto (all_flushing s (moment h) done pieces h) h) ≡ true → IsUpWithCause hub v.machine k
+  pub on_time : v.machine.idle_set.clock.moment ≡ moment h
 
 pub none_told : {H Job : Type 0} (hub : Hub Job) (s : Setup) (u : Unsettled) (before : List Said) (v : Server H Job) (conns : List ℕ) (h : List ServerEvent)
-    → AreRising conns → u ≡ settled → Standing {H = H} hub s u before v h → ((k : ℕ) → is_listed k conns ≡ false → IsUpWithCause {H = H} hub v.machine k)
+    → AreRising conns → u ≡ settled → Standing {H = H} hub s u before v h → v.machine.idle_set.clock.moment ≡ moment h
+    → ((k : ℕ) → is_listed k conns ≡ false → IsUpWithCause {H = H} hub v.machine k)
     → ToldSome {H = H} hub s before v conns conns h
-none_told {H} hub s u before v conns h rise is stands cause = record {
+none_told {H} hub s u before v conns h rise is stands on_time cause = record {
   done = [];
   pieces = [];
   are = refl;
@@ -110,6 +112,7 @@ none_told {H} hub s u before v conns h rise is stands cause = record {
   rested = λ k e. absurd (true≢false (sym e));
   others = λ k e. alike_refl k h;
   cause = λ k e speaks. cause k e;
+  on_time = on_time;
 }
 
 -- one connection tells so
@@ -224,6 +227,7 @@ module _ {H Job : Type 0} (parts : PartsOfTurns) (hub : Hub Job) (s : Setup) (be
     rested = λ k e. subst (λ f. IsRested k f) (sym after) (rested_each k (k == c) refl (sym (listed_last k c p.done) ∙ e));
     others = λ k e. subst (λ f. Alike k f h) (sym after) (others_each k (is_listed k p.done) (k == c) refl refl (sym (listed_last k c p.done) ∙ e));
     cause = λ k e. subst (λ f. may_speak k f ≡ true → IsUpWithCause {H = H} hub new.machine k) (sym after) (cause_each k (k == c) refl e);
+    on_time = ap (λ k. k.moment) keeps.clock ∙ p.on_time;
   }
 
 -- one more connection has told
@@ -252,17 +256,18 @@ one_told {H} {Job} parts hub s before old new conns i h l known p tells keeps =
     listed all ds e = subst (λ xs. is_listed (get_or conns i 0) xs ≡ true) e (among (get_or conns i 0) ds (drop (i + 1) conns))
 
 -- all that are awake have told, and those that sleep have nothing to tell
-pub all_told : {H Job : Type 0} → ConnectionsAreNumbered → (hub : Hub Job) (s : Setup) (before : List Said) (m : Machine H Job)
+pub all_told : {H Job : Type 0} → ConnectionsAreNumbered → PartsOfTurns → (hub : Hub Job) (s : Setup) (before : List Said) (m : Machine H Job)
     (v : Server H Job) (conns : List ℕ) (i : ℕ) (h : List ServerEvent) → length conns ≤ i → StandsMachine {H = H} hub m (work h) → AreNumbers {H = H} m conns
     → ((k : ℕ) → has_peer k h ≡ true → is_awake_at m k ≡ false → IsMute s k h)
     → ToldSome {H = H} hub s before v conns (drop i conns) h → IsFlushed {H = H} hub s before v h
-all_told {H} {Job} law hub s before m v conns i h l stands numbers mute p = record {
+all_told {H} {Job} law parts hub s before m v conns i h l stands numbers mute p = record {
   pieces = all.whole;
   all_due = all.due;
   stands = subst (λ xs. Standing {H = H} hub s settled before v (onto xs h)) (sym is) p.stands;
   rested = λ c. subst (λ xs. IsRested c (onto xs h)) (sym is) (go c (is_listed c p.done) refl);
   left_alone = λ c. subst (λ xs. IsLeftAlone {H = H} v.machine c (onto xs h)) (sym is)
       (left_alone {H = H} {Job = Job} hub v.machine c (onto (all_flushing s (moment h) p.done p.pieces h) h) p.stands.machine
+      (p.on_time ∙ sym (all_unheard_then parts s (moment h) p.done p.pieces h h).clock)
       (p.cause c (ap (is_listed c) (drop_all i conns l))));
 }
   where

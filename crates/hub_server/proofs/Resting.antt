@@ -9,12 +9,13 @@ use Rattle.hd_calls.specs.Peers.{PeerEvent, Settings}
 use Rattle.hd_server.specs.declared.vocabulary.Said.{Said}
 use Rattle.hd_server.specs.Lives.{Answered, ConnectionEvent, is_polling, lost_at, poll_ended, poll_of, socket_of}
 use Rattle.hd_server.specs.Machine.{MachineEvent, moves}
-use Rattle.hd_server.specs.Doings.{ServerEvent, is_full, notes, work}
+use Rattle.hd_server.specs.Doings.{ServerEvent, is_full, moment, notes, work}
 use Rattle.hd_server.specs.Plans.{Setup}
 use Rattle.hp_peer.specs.declared.peer.Peer.{Peer}
 use Rattle.hub_machine.specs.declared.machine.Machine.{Machine}
 use Rattle.hub_machine.specs.declared.idle_set.IdleClock.{IdleClock}
 use Rattle.hub_machine.specs.declared.idle_set.IdlePeer.{IdlePeer}
+use Rattle.hub_machine.specs.IdleSet.{clock_at, rounds_begun}
 use Rattle.hub_machine.specs.Machines.{IsAtRest, IsKeptAs, Sleeps, StandsMachine, is_awake_at, idle_peer_at, peer_at, settings_there}
 use Rattle.hub_machine.specs.Sleeping.{IsUpFor, IsUpWithCause, KeepsOthers}
 use Rattle.hub_server.specs.declared.server.Server.{Server}
@@ -67,11 +68,17 @@ up_still {H} hub old new c k keeps e up =
     (subst (λ o. IsUpFor {H = H} hub old.idle_set.clock o (peer_at new k)) (sym (keeps.idle_peers k e))
     (subst (λ p. IsUpFor {H = H} hub old.idle_set.clock (idle_peer_at old k) p) (sym (keeps.peers k e)) up))
 
+-- a clock that stands at the moment, and counts the rounds
+clock_is : (k : IdleClock) (now : ℕ) (w : List MachineEvent) → k.moment ≡ now → k.rounds ≡ rounds_begun w → k ≡ clock_at now w
+clock_is k now w e f = λ i. record { moment = e i; rounds = f i }
+
 -- so it sleeps exactly if it may
 pub left_alone : {H Job : Type 0} (hub : Hub Job) (m : Machine H Job) (c : ℕ) (h : List ServerEvent) → StandsMachine {H = H} hub m (work h)
-    → (may_speak c h ≡ true → IsUpWithCause {H = H} hub m c) → IsLeftAlone {H = H} m c h
-left_alone {H} {Job} hub m c h s up t there speaks = by (idle_peer_at m c) (peer_at m c)
-    (subst (λ (o : Option Settings). IsKeptAs {H = H} hub m.idle_set.clock (idle_peer_at m c) o (moves c (work h)) (peer_at m c)) there (s.at c)) (up speaks)
+    → m.idle_set.clock.moment ≡ moment h → (may_speak c h ≡ true → IsUpWithCause {H = H} hub m c) → IsLeftAlone {H = H} m c h
+left_alone {H} {Job} hub m c h s on_time up t there speaks =
+    subst (λ k. IsAtRest k (idle_peer_at m c) t (moves c (work h))) (clock_is m.idle_set.clock (moment h) (work h) on_time s.rounds)
+    (by (idle_peer_at m c) (peer_at m c)
+    (subst (λ (o : Option Settings). IsKeptAs {H = H} hub m.idle_set.clock (idle_peer_at m c) o (moves c (work h)) (peer_at m c)) there (s.at c)) (up speaks))
   where
     by : (o : Option IdlePeer) (p : Option (Peer H Job)) → IsKeptAs {H = H} hub m.idle_set.clock o (Some t) (moves c (work h)) p
         → IsUpFor {H = H} hub m.idle_set.clock o p → IsAtRest m.idle_set.clock o t (moves c (work h))

@@ -100,6 +100,10 @@ ticked h = onto (ticks (moment h) h) h
 abbrev pub rounded : List MachineEvent → List ServerEvent → List ServerEvent
 rounded round h = map Works round ++ Works (Rounds (moment h)) ∷ h
 
+-- both at the moment of the event
+rounded_at : PartsOfTurns → (round : List MachineEvent) (h : List ServerEvent) → moment (rounded round (ticked h)) ≡ moment h
+rounded_at law round h = round_at round (Works (Rounds (moment (ticked h))) ∷ ticked h) ∙ (ticks_quiet law (moment h) h h).at
+
 pub turns_to : {H Job : Type 0} → PartsOfTurns → (hub : Hub Job) (s : Setup) (before : List Said) (v w x : Server H Job) (at mid since : Outside) (now : ℕ) (e : Event)
     (h : List ServerEvent)
     (handled : Handles {H = H} hub s before v at mid e (expired_by (Hears now e ∷ h)))
@@ -174,13 +178,15 @@ turns_to {H} law hub s before v w x at mid since now e h handled turned told dra
 module _ {H Job : Type 0} (law : PartsOfTurns) (hub : Hub Job) (s : Setup) (before : List Said) (v1 v2 v3 v4 v5 x : Server H Job) (at mid since : Outside) (now : ℕ)
     (e : Event)
     (h : List ServerEvent) (drawn : since.drawn ≡ mid.drawn) (failures : since.failures ≡ mid.failures) (join : AnswersJoin)
-    (tell : (g : List ServerEvent) → Standing {H = H} hub s settled before v5 g → IsFlushed {H = H} hub s before x g) where
+    (on_time : v4.machine.idle_set.clock.moment ≡ v3.moment) (still : v5.machine.idle_set.clock.moment ≡ v4.machine.idle_set.clock.moment)
+    (tell : (g : List ServerEvent) → Standing {H = H} hub s settled before v5 g → v5.machine.idle_set.clock.moment ≡ moment g → IsFlushed {H = H} hub s before x g) where
   from_rounded : (handled : Handles {H = H} hub s before v3 at mid e (expired_by (Hears now e ∷ h)))
       → IsRounded {H = H} hub s settled before v5 mid.holds mid.answers mid.faults since.holds since.answers since.faults (ticked handled.after)
       → TurnsTo {H = H} hub s before x at since (record { now = now; event = e }) h
   from_rounded handled turned =
       turns_to {H = H} law hub s before v3 v5 x at mid since now e h handled turned
-      (tell (rounded turned.on.round (ticked handled.after)) turned.on.stands) drawn failures join
+      (tell (rounded turned.on.round (ticked handled.after)) turned.on.stands
+      (still ∙ on_time ∙ handled.stands.clock ∙ sym (rounded_at law turned.on.round handled.after))) drawn failures join
 
   from_handled : ((g : List ServerEvent) → Standing {H = H} hub s settled before v3 g → Standing {H = H} hub s settled before v4 (ticked g))
       → ((g : List ServerEvent) → Standing {H = H} hub s settled before v4 g

@@ -151,6 +151,7 @@ rests u a (k ∷ cs) h rise each =
       gone = λ c. refl;
       joins = refl;
       users = refl;
+      rounds = refl;
       noted = refl;
       clock = refl;
       words = refl;
@@ -323,6 +324,7 @@ module _ {H Job : Type 0} (law : ConnectionsAreNumbered) (hub : Hub Job) (s : Se
         moved = moved_so;
         joins = same_passed.joins;
         users = same_passed.users;
+        rounds = same_passed.rounds;
       }))
       have.orderly st
 

@@ -33,6 +33,7 @@ AreUp {H} m (w ∷ ws) = IsUp {H = H} m w.conn × AreUp {H = H} m ws
 pub record HaveWoken {H Job : Type 0} (hub : Hub Job) (old new : Server H Job) (ws : List Waiting) : Type 0 where
   pub stands : OfEach hub old (λ s u before h. Standing hub s u before new h)
   pub up : AreUp new.machine ws
+  pub clock : new.machine.idle_set.clock ≡ old.machine.idle_set.clock
 
 -- what is awake stays so while another wakes
 abbrev pub KeepsUp : {H Job : Type 0} → Machine H Job → Machine H Job → Type 0
@@ -76,14 +77,14 @@ up_within {H} {Job} m (w ∷ ws) since c up e =
 -- ---- the loop
 
 pub none_woken : {H Job : Type 0} (hub : Hub Job) (old : Server H Job) → HaveWoken {H = H} hub old old []
-none_woken hub old = record { stands = λ s u before h x. x; up = tt }
+none_woken hub old = record { stands = λ s u before h x. x; up = tt; clock = refl }
 
 pub one_woken : {H Job : Type 0} (hub : Hub Job) (old v : Server H Job) (m : Machine H Job) (w : Waiting) (ws : List Waiting) (i : ℕ)
     → i < length ws → HaveWoken {H = H} hub old v (take i ws)
     → ((z : List MachineEvent) → StandsMachine {H = H} hub v.machine z → StandsMachine {H = H} hub m z) → IsUp {H = H} m (get_or ws i w).conn
     → ((k : ℕ) → ((get_or ws i w).conn == k) ≡ false → (peer_at m k ≡ peer_at v.machine k) × (idle_peer_at m k ≡ idle_peer_at v.machine k))
-    → HaveWoken {H = H} hub old (record v { machine = m }) (take (i + 1) ws)
-one_woken {H} {Job} hub old v m w ws i l so wakes now others = record {
+    → m.idle_set.clock ≡ v.machine.idle_set.clock → HaveWoken {H = H} hub old (record v { machine = m }) (take (i + 1) ws)
+one_woken {H} {Job} hub old v m w ws i l so wakes now others same = record {
   stands = λ s u before h x. let y = so.stands s u before h x in record {
     setup = y.setup;
     machine = wakes (work h) y.machine;
@@ -97,6 +98,7 @@ one_woken {H} {Job} hub old v m w ws i l so wakes now others = record {
   };
   up = subst (λ n. AreUp {H = H} m (take n ws)) (next i) (one_more {H = H} {Job = Job} m w ws i l
       (all_keep_up {H = H} {Job = Job} v.machine m (keeps_up {H = H} {Job = Job} v.machine m (get_or ws i w).conn now others) (take i ws) so.up) now);
+  clock = same ∙ so.clock;
 }
   where
     next : (n : ℕ) → suc n ≡ n + 1

@@ -18,6 +18,7 @@ use Rattle.hn_server_front.specs.Stands as front
 use Rattle.hn_server_front.specs.declared.front.Front.{Front}
 use Rattle.hub_server.specs.declared.server.Server.{Server}
 use Rattle.hub_machine.specs.declared.machine.Machine.{Machine}
+use Rattle.hub_machine.specs.IdleSet.{clock_at}
 use Rattle.hub_machine.specs.Machines.{IsAtRest, StandsMachine, idle_peer_at, settings_there}
 use Rattle.hub_server.specs.Lanes.{IsLane, Unsettled}
 use Rattle.hub_server.specs.Resend.{ResendLimits, setup_with}
@@ -53,10 +54,11 @@ may_speak_on c None h = not (is_polling c (notes h)) || is_some (poll_of c (note
 abbrev pub may_speak : ℕ → List ServerEvent → Bool
 may_speak c h = may_speak_on c (socket_of c (notes h)) h
 
--- Between events the connection, if what is due at it can be said, sleeps exactly if it may
+-- Between events the connection, if what is due at it can be said, sleeps exactly if it may: by the moment of the last event, and all rounds
+-- that have begun
 abbrev pub IsLeftAlone : {H Job : Type 0} → Machine H Job → ℕ → List ServerEvent → Type 0
 IsLeftAlone m c h = (t : Settings) → settings_there c (work h) ≡ Some t → may_speak c h ≡ true
-    → IsAtRest m.idle_set.clock (idle_peer_at m c) t (moves c (work h))
+    → IsAtRest (clock_at (moment h) (work h)) (idle_peer_at m c) t (moves c (work h))
 
 -- whose connection it is, until it has a peer or is let go
 abbrev pub caller_of : ℕ → List ServerEvent → Option (List ℕ)

@@ -274,6 +274,7 @@ impl<H: Hub> Server<H> {
         ensures lost { OfEach (meaning H.begin_of H.step_of) self.old (λ s u before h. u ≡ cut_of lane → has_peer conn h ≡ true → present_link (history conn h) ≡ Absent →
             note.socket_of conn (notes h) ≡ Given lane → granted ≡ may_resume conn h →
             Standing (meaning H.begin_of H.step_of) s settled before self.new (onto (losing conn lane (moment h) h) h)) }
+        ensures clock { self.new.machine.idle_set.clock ≡ self.old.machine.idle_set.clock }
     {
         if granted {
             self.front.lost(conn, lane, self.moment);

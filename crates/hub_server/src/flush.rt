@@ -28,8 +28,9 @@ impl<H: Hub> Server<H> {
 
     /// Each end on a link ticks once.
     pub(crate) fn tick_all(&mut self, alloc: Global) -> Result<(), AllocError>
-        ensures { OnOk result (OfEach (meaning H.begin_of H.step_of) self.old (λ s u before h. u ≡ settled →
+        ensures ticked { OnOk result (OfEach (meaning H.begin_of H.step_of) self.old (λ s u before h. u ≡ settled →
             Standing (meaning H.begin_of H.step_of) s u before self.new (onto (ticks (moment h) h) h))) }
+        ensures clock { OnOk result (self.new.machine.idle_set.clock.moment ≡ self.old.moment) }
     {
         hub_machine::connections_are_numbered();
         hd_server::parts_of_turns();
@@ -44,8 +45,9 @@ impl<H: Hub> Server<H> {
 
     /// The end of a connection ticks, if it stands on a link. A silence is a loss, and its lane is to end.
     fn tick(&mut self, conn: u64) -> Result<(), AllocError>
-        ensures { OnOk result (OfEach (meaning H.begin_of H.step_of) self.old (λ s u before h. u ≡ settled → has_peer conn h ≡ true →
+        ensures ticked { OnOk result (OfEach (meaning H.begin_of H.step_of) self.old (λ s u before h. u ≡ settled → has_peer conn h ≡ true →
             Standing (meaning H.begin_of H.step_of) s u before self.new (onto (ticking (moment h) conn h) h))) }
+        ensures clock { OnOk result (self.new.machine.idle_set.clock ≡ self.old.machine.idle_set.clock) }
     {
         let Some(granted) = self.machine.tick_there(conn, self.moment) else {
             return Ok(());
@@ -88,7 +90,7 @@ impl<H: Hub> Server<H> {
 
     /// Each connection says what is due.
     pub(crate) fn flush_all(&mut self, alloc: Global) -> Result<(), AllocError>
-        ensures { OnOk result (OfEach (meaning H.begin_of H.step_of) self.old (λ s u before h. u ≡ settled →
+        ensures { OnOk result (OfEach (meaning H.begin_of H.step_of) self.old (λ s u before h. u ≡ settled → self.old.machine.idle_set.clock.moment ≡ moment h →
             IsFlushed (meaning H.begin_of H.step_of) s before self.new h)) }
     {
         hub_machine::connections_are_numbered();
@@ -106,6 +108,7 @@ impl<H: Hub> Server<H> {
         ensures stands { OfEach (meaning H.begin_of H.step_of) self.old (λ s u before h. Standing (meaning H.begin_of H.step_of) s u before self.new h) }
         ensures awake { OfEach (meaning H.begin_of H.step_of) self.old (λ s u before h. (c lane since : ℕ) → poll_of c (notes h) ≡ Given (lane, since) → has_peer c h ≡ true →
             nat_le (since + held_for) (moment h) ≡ true → idle_peer_at self.new.machine c ≡ Absent) }
+        ensures clock { self.new.machine.idle_set.clock ≡ self.old.machine.idle_set.clock }
     {
         for waiting in self.front.held_long(self.moment) {
             self.machine.wake(waiting.conn);

@@ -186,9 +186,10 @@ impl<H: Hub> Server<H> {
         requires name { blank.name ≡ L.name }
         requires parts { blank.parts ≡ L.parts }
         requires some { 0 < L.parts }
-        ensures { OnOk result (OfEach (meaning H.begin_of H.step_of) self.old (λ s u before h.
+        ensures rounded { OnOk result (OfEach (meaning H.begin_of H.step_of) self.old (λ s u before h.
             IsRounded (meaning H.begin_of H.step_of) s u before self.new
             (K.holds keeper.old) (K.answers keeper.old) (K.faults keeper.old) (K.holds keeper.new) (K.answers keeper.new) (K.faults keeper.new) h)) }
+        ensures clock { OnOk result (self.new.machine.idle_set.clock.moment ≡ self.old.machine.idle_set.clock.moment) }
     {
         let mut steps = Steps::<L>::start(blank);
         self.machine

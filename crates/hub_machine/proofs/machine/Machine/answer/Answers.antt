@@ -6,8 +6,8 @@ use Rattle.hub_machine.proofs.Ends.{awake_now, keeps, written}
 use Rattle.hub_machine.proofs.CarryAnswer.{answer_stands, answer_unheard, takes_answer}
 use Rattle.hub_machine.proofs.machine.Machine.answer.Goals as goal
 
-pub returns-in-Some : goal.returns-in-Some
-returns-in-Some g c a j number may s =
+pub returns-in-Some-clause-answered : goal.returns-in-Some-clause-answered
+returns-in-Some-clause-answered g c a j number may s =
     let hub = meaning g.H.Hub.begin_of g.H.Hub.step_of in
     let old = c.wake.new.self in
     let peer = c.in-Some.peer.now in
@@ -22,8 +22,8 @@ returns-in-Some g c a j number may s =
     refl may (takes_answer {H = g.row.H.Denot} hub peer c.answer.new.self c.args.job j c.args.input c.answer.result number
     c.answer.ensures.ok c.answer.ensures.unknown)
 
-pub returns-in_default : goal.returns-in_default
-returns-in_default g c a j number may s =
+pub returns-in_default-clause-answered : goal.returns-in_default-clause-answered
+returns-in_default-clause-answered g c a j number may s =
     let hub = meaning g.H.Hub.begin_of g.H.Hub.step_of in
     subst (λ ps. StandsFor {H = g.row.H.Denot} {Job = g.row.H-Job.Denot} hub (record c.wake.new.self { peers = ps })
     (moved c.args.conn (Answers j c.args.input) a)) (sym c.get_mut.follows.holds-at-none)

@@ -23,7 +23,7 @@ returns-in-Join-clause-carried g c =
     let answers = g.K.Keeper.answers c.args.keeper.now in
     let faults = g.K.Keeper.faults c.args.keeper.now in
     let before = keeper_state holds answers faults c.args.steps.now in
-    on_ok c.join.result c.join.ensures (λ f.
+    on_ok c.join.result c.join.ensures.carried (λ f.
     named_so {H = g.row.H.Denot} hub c.args.self.now c.join.new.self before before c.args.conn c.args.job c.args.deed _ c.in-Join.is
     (λ r j number owes there s. f r j number owes there s holds answers faults c.args.steps.now))
 
@@ -35,7 +35,7 @@ returns-in-Post-clause-carried g c =
     let faults = g.K.Keeper.faults c.args.keeper.now in
     let before = keeper_state holds answers faults c.args.steps.now in
     let now = keeper_state holds answers faults c.post.new.steps in
-    on_ok c.post.result c.post.ensures (λ f.
+    on_ok c.post.result c.post.ensures.carried (λ f.
     named_so {H = g.row.H.Denot} hub c.args.self.now c.post.new.self before now c.args.conn c.args.job c.args.deed _ c.in-Post.is
     (λ r j number owes there s. f r j number owes there s holds answers faults))
 
@@ -47,7 +47,7 @@ returns-in-Tell-clause-carried g c =
     let faults = g.K.Keeper.faults c.args.keeper.now in
     let before = keeper_state holds answers faults c.args.steps.now in
     let now = keeper_state holds answers faults c.tell.new.steps in
-    on_ok c.tell.result c.tell.ensures (λ f.
+    on_ok c.tell.result c.tell.ensures.carried (λ f.
     named_so {H = g.row.H.Denot} hub c.args.self.now c.tell.new.self before now c.args.conn c.args.job c.args.deed _ c.in-Tell.is
     (λ r j number owes there s. f r j number owes there s holds answers faults))
 
@@ -59,7 +59,7 @@ returns-in-Leave-clause-carried g c =
     let faults = g.K.Keeper.faults c.args.keeper.now in
     let before = keeper_state holds answers faults c.args.steps.now in
     named_so {H = g.row.H.Denot} hub c.args.self.now c.leave.new.self before before c.args.conn c.args.job c.args.deed _ c.in-Leave.is
-    (λ r j number owes there s. c.leave.ensures r j number owes there s holds answers faults c.args.steps.now)
+    (λ r j number owes there s. c.leave.ensures.carried r j number owes there s holds answers faults c.args.steps.now)
 
 pub returns-in-History-clause-carried : goal.returns-in-History-clause-carried
 returns-in-History-clause-carried g c =

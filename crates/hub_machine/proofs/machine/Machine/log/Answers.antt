@@ -15,11 +15,11 @@ returns-in-Ok-clause-carried g c r j number owes there s spelled =
     let before : KeeperState = keeper_state (g.K.Keeper.holds c.args.keeper.now) (g.K.Keeper.answers c.args.keeper.now) (g.K.Keeper.faults c.args.keeper.now) spelled in
     let now : KeeperState = keeper_state (g.K.Keeper.holds c.log.new.self) (g.K.Keeper.answers c.log.new.self) (g.K.Keeper.faults c.log.new.self) spelled in
     log_carried {H = g.row.H.Denot} {Job = g.row.H-Job.Denot} hub c.answer.new.self c.args.self.now before now r c.args.conn j
-    c.args.room.now c.who.result.now c.args.text.now true s owes there
+    c.args.room.now c.who.result.now c.args.text.now true s c.answer.ensures.clock owes there
     (who_is {H = g.row.H.Denot} {Job = g.row.H-Job.Denot} hub c.args.self.now r c.args.conn c.in-Some.peer.now c.who.result.now s there
     c.in-Some.ensures.value c.who.ensures)
     (was_logged before now c.args.room.now c.who.result.now c.args.text.now c.in-Ok.ensures.added c.in-Ok.ensures.noted c.in-Ok.ensures.cause refl)
-    (λ a. c.answer.ensures a j number)
+    (λ a. c.answer.ensures.answered a j number)
 
 pub returns-in-Err-Failed-clause-carried : goal.returns-in-Err-Failed-clause-carried
 returns-in-Err-Failed-clause-carried g c r j number owes there s spelled =
@@ -27,9 +27,9 @@ returns-in-Err-Failed-clause-carried g c r j number owes there s spelled =
     let before : KeeperState = keeper_state (g.K.Keeper.holds c.args.keeper.now) (g.K.Keeper.answers c.args.keeper.now) (g.K.Keeper.faults c.args.keeper.now) spelled in
     let now : KeeperState = keeper_state (g.K.Keeper.holds c.log.new.self) (g.K.Keeper.answers c.log.new.self) (g.K.Keeper.faults c.log.new.self) spelled in
     log_carried {H = g.row.H.Denot} {Job = g.row.H-Job.Denot} hub c.answer-in-Err-Failed.new.self c.args.self.now before now r c.args.conn j
-    c.args.room.now c.who.result.now c.args.text.now false s owes there
+    c.args.room.now c.who.result.now c.args.text.now false s c.answer-in-Err-Failed.ensures.clock owes there
     (who_is {H = g.row.H.Denot} {Job = g.row.H-Job.Denot} hub c.args.self.now r c.args.conn c.in-Some.peer.now c.who.result.now s there
     c.in-Some.ensures.value c.who.ensures)
     (was_unlogged before now c.args.room.now c.who.result.now c.args.text.now c.in-Err-Failed.field-0 c.in-Err-Failed.field-0-is
     c.in-Err-Failed.ensures.unchanged c.in-Err-Failed.ensures.noted c.in-Err-Failed.ensures.cause refl)
-    (λ a. c.answer-in-Err-Failed.ensures a j number)
+    (λ a. c.answer-in-Err-Failed.ensures.answered a j number)

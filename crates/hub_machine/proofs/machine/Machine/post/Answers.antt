@@ -10,8 +10,8 @@ use Rattle.hub_machine.proofs.Carry.{carried_telling, fates_in_are, goes_alone, 
 use Rattle.hub_machine.proofs.EncodedCodecs.{spelled_so}
 use Rattle.hub_machine.proofs.machine.Machine.post.Goals as goal
 
-pub returns : goal.returns
-returns g c r j number owes there s holds answers faults =
+pub returns-clause-carried : goal.returns-clause-carried
+returns-clause-carried g c r j number owes there s holds answers faults =
     let hub = meaning g.H.Hub.begin_of g.H.Hub.step_of in
     let d = deed.Post c.args.group.now c.args.target c.args.arguments in
     let to = members c.args.group.now (registry r).groups in
@@ -22,10 +22,10 @@ returns g c r j number owes there s holds answers faults =
     record {
       asked = None;
       is_asked = refl;
-      stands = carried_telling {H = g.row.H.Denot} hub c.answer.new.self c.args.self.now r c.args.conn j d fates said.0 s owes there refl refl said.1
+      stands = carried_telling {H = g.row.H.Denot} hub c.answer.new.self c.args.self.now r c.args.conn j d fates said.0 s (c.answer.ensures.clock ∙ c.in_ok-notify.ensures.clock) owes there refl refl said.1
           (ap (λ cs. fates_in (machine_view r) cs c.args.target c.args.arguments) are
           ∙ fates_in_are r to c.args.target c.args.arguments (members_up r c.args.group.now (joined r)))
-          (c.answer.ensures said.0 j number
+          (c.answer.ensures.answered said.0 j number
           (may_answer_told {H = g.row.H.Denot} hub c.args.self.now r c.args.conn j d (input.Done value.Null) fates said.0 s owes refl said.1) said.2);
       goes = goes_alone holds answers faults c.args.steps.now c.notify.new.steps r c.args.conn j d _
           (spelled_so {H = g.row.H.Denot} hub c.args.self.now r c.args.steps.now c.notify.new.steps c.deref.result.now to c.args.target c.args.arguments

@@ -1,7 +1,7 @@
-use Rattle.std.proofs.Common.{refl, sym}
+use Rattle.std.proofs.Common.{refl, sym, ap, ◌∙◌}
 use Rattle.hd_server.specs.Machine.{moves}
 use Rattle.hj_jobs.specs.Meaning.{meaning}
-use Rattle.hub_machine.proofs.Ends.{awake_now, stood}
+use Rattle.hub_machine.proofs.Ends.{awake_now, closes_if, stood}
 use Rattle.hub_machine.proofs.TickThere.{granted_none, granted_some, not_there, ticks_there}
 use Rattle.hub_machine.proofs.machine.Machine.tick_there.Goals as goal
 
@@ -48,3 +48,19 @@ returns-clause-ticked g c w t s there in_time =
     c.args.now c.is_attached.result c.is_attached.ensures c.if-not-is_attached.false c.tick-silent.result
     (c.tick-silent.ensures.ticks t (moves conn w) own in_time) c.close_out_if.new.self c.is_over-over.result c.close_out_if.ensures
     c.is_over-over.ensures _ (sym c.if-silent.false) (granted_none _)
+
+pub returns-then-silent-clause-clock : goal.returns-then-silent-clause-clock
+returns-then-silent-clause-clock g c =
+    ap (λ s. s.clock)
+    (closes_if {H = g.row.H.Denot} {Job = g.row.H-Job.Denot} _ c.ensure_awake.new.self c.args.conn c.in-Some.peer.now c.tick-silent.new.self
+    c.in-Some.ensures.value _ (c.get_mut.follows.holds c.tick-silent.new.self) c.close_out_if.new.self c.is_over-over.result c.close_out_if.ensures
+    c.is_over-over.ensures).idle_set
+    ∙ c.ensure_awake.ensures.keeps.clock
+
+pub returns-clause-clock : goal.returns-clause-clock
+returns-clause-clock g c =
+    ap (λ s. s.clock)
+    (closes_if {H = g.row.H.Denot} {Job = g.row.H-Job.Denot} _ c.ensure_awake.new.self c.args.conn c.in-Some.peer.now c.tick-silent.new.self
+    c.in-Some.ensures.value _ (c.get_mut.follows.holds c.tick-silent.new.self) c.close_out_if.new.self c.is_over-over.result c.close_out_if.ensures
+    c.is_over-over.ensures).idle_set
+    ∙ c.ensure_awake.ensures.keeps.clock

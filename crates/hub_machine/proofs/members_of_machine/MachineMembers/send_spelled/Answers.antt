@@ -11,7 +11,7 @@ returns-in_err-send_spelled-clause-dealt g c =
     let new = record old { peers = c.get_mut.follows.lender c.send_spelled.new.self } in
     let at = c.in-Some.ensures.value in
     let through = c.get_mut.follows.holds c.send_spelled.new.self in
-    rw (e.1, e.2) (λ s deals d. deals_more {H = g.row.H.Denot} {Job = g.row.H-Job.Denot} _ s c.args.self.now new deals _ d
+    rw (e.1, e.2) (λ s deals d. deals_more {H = g.row.H.Denot} {Job = g.row.H-Job.Denot} _ s c.args.self.now new deals _ d c.wake.ensures.clock
     (λ a stands. unsent {H = g.row.H.Denot} {Job = g.row.H-Job.Denot} _ old new c.args.conn c.in-Some.peer.now c.send_spelled.new.self c.args.message.now
     c.in_err-send_spelled.field-0.0
     (awake_now {H = g.row.H.Denot} {Job = g.row.H-Job.Denot} old c.args.conn c.in-Some.peer.now c.wake.ensures.awake at)
@@ -25,7 +25,7 @@ returns-clause-dealt g c =
     let new = record old { peers = c.get_mut.follows.lender c.send_spelled.new.self } in
     let at = c.in-Some.ensures.value in
     let through = c.get_mut.follows.holds c.send_spelled.new.self in
-    let notice = c.requires.notice in λ s deals d. deals_more {H = g.row.H.Denot} {Job = g.row.H-Job.Denot} _ s c.args.self.now new deals _ d
+    let notice = c.requires.notice in λ s deals d. deals_more {H = g.row.H.Denot} {Job = g.row.H-Job.Denot} _ s c.args.self.now new deals _ d c.wake.ensures.clock
     (λ a stands. sent {H = g.row.H.Denot} {Job = g.row.H-Job.Denot} _ old new c.args.conn c.in-Some.peer.now c.send_spelled.new.self c.args.message.now
     notice.0 c.in_ok-send_spelled.field-0
     (awake_now {H = g.row.H.Denot} {Job = g.row.H-Job.Denot} old c.args.conn c.in-Some.peer.now c.wake.ensures.awake at)

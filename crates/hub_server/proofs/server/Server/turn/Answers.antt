@@ -18,9 +18,10 @@ returns g c = record {
       (outside (g.K.Keeper.holds c.round.new.keeper) (g.K.Keeper.answers c.round.new.keeper) (g.K.Keeper.faults c.round.new.keeper)
       (g.L.Lots.drawn c.handle.new.lots) (g.L.Lots.faults c.handle.new.lots))
       c.args.heard.now c.args.heard.event h refl refl c.answers_join.ensures
-      (λ f x. c.in_ok-flush_all.ensures s settled before f x refl)
-      (λ f x. c.in_ok-tick_all.ensures s settled before f x refl)
-      (λ f x. c.in_ok-round.ensures s settled before f x)
+      c.in_ok-tick_all.ensures.clock c.in_ok-round.ensures.clock
+      (λ f x on_time. c.in_ok-flush_all.ensures s settled before f x refl on_time)
+      (λ f x. c.in_ok-tick_all.ensures.ticked s settled before f x refl)
+      (λ f x. c.in_ok-round.ensures.rounded s settled before f x)
       (λ f x. c.in_ok-handle.ensures s before f x)
       (λ f x. c.expire.ensures.expired s (lane_of (lost_in c.args.heard.event)) before f x refl)
       (λ f x. c.expire.ensures.over s (lane_of (lost_in c.args.heard.event)) before f x)
