@@ -4,3 +4,4 @@ pub mod Asking
 pub mod Turns
 pub mod Reading
 pub mod Laws
+pub mod Words

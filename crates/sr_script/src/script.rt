@@ -27,10 +27,15 @@ pub enum ScriptError {
 }
 
 impl fmt::Display for ScriptError {
+    ghost use Rattle.std.specs.Prelude.{Some};
+    ghost use Rattle.sr_script.specs.Words.{script_error_words};
+
+    ghost output = { λ error. Some (script_error_words error) };
+
     fn fmt<W: fmt::Write>(&self, f: &mut fmt::Formatter<W>) -> fmt::Result {
         match self {
             ScriptError::Line(number) => write!(f, "line {number} is none of a script"),
-            ScriptError::NoMemory => write!(f, "out of memory"),
+            ScriptError::NoMemory => f.write_str("out of memory"),
         }
     }
 }
