@@ -5,3 +5,4 @@ pub mod Follows
 pub mod Plays
 pub mod Replays
 pub mod WithPeers
+pub mod Words

@@ -54,6 +54,11 @@ pub enum ReplayError {
 }
 
 impl fmt::Display for ReplayError {
+    ghost use Rattle.std.specs.Prelude.{Some};
+    ghost use Rattle.sr_replay.specs.Words.{replay_error_words};
+
+    ghost output = { λ error. Some (replay_error_words error) };
+
     fn fmt<W: fmt::Write>(&self, f: &mut fmt::Formatter<W>) -> fmt::Result {
         match self {
             ReplayError::Write => f.write_str("the output failed"),
