@@ -102,3 +102,10 @@ known_join laws h k o a b c l m n p q = record {
   kept = laws.kept h k o p.since q.since p.kept q.kept;
   counted = laws.faults l m n p.since q.since p.counted q.counted;
 }
+
+-- five answers, one after the other
+pub told_five : (a b c d e f : Option (List Asked)) (p q r s t : Asked) → Gains a b p → Gains b c q → Gains c d r → Gains d e s → Gains e f t →
+    f ≡ option_map (λ (asks : List Asked). asks ++ p ∷ q ∷ r ∷ s ∷ t ∷ []) a
+told_five a b c d e f p q r s t g h i j k =
+    told_join a e f (p ∷ q ∷ r ∷ s ∷ []) (t ∷ [])
+    (told_join a d e (p ∷ q ∷ r ∷ []) (s ∷ []) (told_join a c d (p ∷ q ∷ []) (r ∷ []) (told_join a b c (p ∷ []) (q ∷ []) g h) i) j) k

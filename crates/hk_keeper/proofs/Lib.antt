@@ -1,3 +1,4 @@
 pub mod Texts
 pub mod Users
 pub mod Knowing
+pub mod Lasts
