@@ -10,7 +10,7 @@ use Rattle.hd_server.specs.Lives.{ConnectionEvent, Ended, Expired, Removed, made
 use Rattle.hn_server_front.specs.declared.front.Front.{Front}
 use Rattle.hn_server_front.specs.declared.moments.Waiting.{Waiting}
 use Rattle.hn_server_front.specs.Calls.{Expires, IsFirst, IsNoted, is_held_long}
-use Rattle.hn_server_front.specs.Moments.{at, is_due, is_same, is_within, IsLeast}
+use Rattle.hn_server_front.specs.Moments.{at, is_due, is_same, is_within, IsInOrder, IsLeast}
 use Rattle.hn_server_front.specs.Stands.{IsUnborn, Stands, is_there, since_of}
 use Rattle.hn_server_front.proofs.Placed.{same_is}
 use Rattle.hn_server_front.proofs.Alike.{Alike, same_of_eight, standing_by, stands_alike}
@@ -37,6 +37,15 @@ within_filter p w (v ∷ vs) = elim (cases_Bool (p v)) [
         let f : p w ≡ false = ap p (same_is w v h) ∙ e in
         ap (λ b. b && is_within w vs) f ∙ sym (ap (λ b. b && true) f)
     failed e false h = refl
+
+-- those that pass a test are in the order of all
+pub order_filter : (p : Waiting → Bool) (ws : List Waiting) → IsInOrder ws → IsInOrder (filter p ws)
+order_filter p [] o = tt
+order_filter p (v ∷ vs) o = go (p v) (order_filter p vs o.1)
+  where
+    go : (b : Bool) → IsInOrder (filter p vs) → IsInOrder (cond b (v ∷ filter p vs) (filter p vs))
+    go true rest = (λ w e. o.0 w (and_parts (p w) (is_within w vs) (sym (within_filter p w vs) ∙ e)).1, rest)
+    go false rest = rest
 
 -- ---- who waits, and whose moment has come
 

@@ -6,7 +6,7 @@ ghost use Rattle.hd_server.specs.Numbers.{most_connections};
 ghost use Rattle.hd_server.specs.Lives.{Answered, Ended, LaneLost, Removed, ConnectionEvent, Polled, Socketed};
 ghost use Rattle.hd_server.specs.Lives.{ended_at, ends_then, first_fresh, gives_way, is_busy, is_full, is_made, is_polling, is_resumable_promise, known_conn, life, life_of, live, overdue};
 ghost use Rattle.hn_server_front.specs.Calls.{Expires, GivesWay, IsFirst, IsNoted, OfEach, Opens, Stays, Tells, is_held_long, lane_of, poll_held};
-ghost use Rattle.hn_server_front.specs.Moments.{at, is_within};
+ghost use Rattle.hn_server_front.specs.Moments.{IsInOrder, at, is_within};
 ghost use Rattle.hn_server_front.specs.Entries.{held_as, note_of};
 ghost use Rattle.hn_server_front.specs.Routes.{RoutesTo};
 ghost use Rattle.hn_server_front.specs.Stands.{HasRoom, IsEntered, IsRoomier, Stands, is_there};
@@ -166,9 +166,11 @@ impl Front {
         }
     }
 
-    /// The connections whose polls have been held for 90,000 milliseconds or longer, with the moments at which these came.
+    /// The connections whose polls have been held for 90,000 milliseconds or longer, with the moments at which these came, in the order of
+    /// these moments, and at one moment of their numbers. Each is there once.
     pub fn held_long(&self, now: u64) -> &[Waiting]
-        ensures { OfEach self.now (λ h. (since c : ℕ) → is_within (at since c) result.now ≡ is_held_long now since c h) }
+        ensures held { OfEach self.now (λ h. (since c : ℕ) → is_within (at since c) result.now ≡ is_held_long now since c h) }
+        ensures order { OfEach self.now (λ h. IsInOrder result.now) }
     {
         self.polls.due(now)
     }

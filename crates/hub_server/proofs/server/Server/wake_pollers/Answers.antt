@@ -22,7 +22,7 @@ returns-clause-awake g c =
     let hub = meaning g.H.Hub.begin_of g.H.Hub.step_of in
     let v = record c.args.self.now { machine = c.loop-waiting.self.1.1.1.0 } in
     all_woken {H = g.row.H.Denot} {Job = g.row.H-Job.Denot} hub c.args.self.now v c.held_long-waiting-items.result.now
-    c.held_long-waiting-items.ensures
+    c.held_long-waiting-items.ensures.held
     (subst (λ ws. HaveWoken {H = g.row.H.Denot} hub c.args.self.now v ws)
     (take_all c.loop-waiting.waiting-index c.held_long-waiting-items.result.now c.loop-waiting-test.false) c.loop-waiting.invariant)
 
