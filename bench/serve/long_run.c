@@ -638,25 +638,30 @@ static void wait_for(int fd, const char *words) {
     }
 }
 
-// Posts in one message, the last of which is to be answered if that is waited for.
-static void say_posts(int fd, bool is_answered) {
-    const char *post = "{\"type\":1,%s\"target\":\"Post\",\"arguments\":[\"nobody\",\"%d %.*s\"]}%c", *id = "\"invocationId\":\"f\",";
+// Posts in the rooms of the users in one message, the last of which is to be answered if that is waited for.
+static void say_posts(int fd, long number, bool is_answered) {
+    const char *post = "{\"type\":1,%s\"target\":\"Post\",\"arguments\":[\"room %ld\",\"%d %ld %.*s\"]}%c", *id = "\"invocationId\":\"f\",";
     char text[FRAME_ROOM];
     size_t length = 0;
-    for (int i = 1; i <= FILLED_AT_ONCE; i++)
-        length += sprintf(text + length, post, is_answered && i == FILLED_AT_ONCE ? id : "", i, letters_of(i, 0), filler, SEPARATOR);
+    for (int i = 1; i <= FILLED_AT_ONCE; i++) {
+        bool is_last = is_answered && i == FILLED_AT_ONCE;
+        long room = (i + number) % (users_count / MEMBERS + 1);
+        length += sprintf(text + length, post, is_last ? id : "", room, i, number, letters_of(i, number), filler, SEPARATOR);
+    }
     say(fd, TEXT, text, length);
 }
 
-// Three times as many texts as a server keeps, in a room of nobody, so that it holds as many as ever.
+// Three times as many texts as a server keeps, before anybody is in a room. They are in as many rooms and as long as those that come later, so that
+// it holds as much as ever, and in pieces as scattered.
 static void fill(void) {
     int fd = dialed();
     ask_upgrade(fd, NULL);
     wait_for(fd, NULL);
     say_message(fd, "{\"protocol\":\"json\",\"version\":1}");
-    for (int i = 1; i <= 3 * TEXTS_KEPT / FILLED_AT_ONCE; i++) {
-        say_posts(fd, i % FILLED_UNHEARD == 0);
-        if (i % FILLED_UNHEARD == 0) wait_for(fd, "\"invocationId\":\"f\"");
+    for (long number = 1; number <= 3 * TEXTS_KEPT / FILLED_AT_ONCE; number++) {
+        bool is_answered = number % FILLED_UNHEARD == 0;
+        say_posts(fd, number, is_answered);
+        if (is_answered) wait_for(fd, "\"invocationId\":\"f\"");
     }
     close(fd);
 }
