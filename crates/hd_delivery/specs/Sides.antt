@@ -2,7 +2,9 @@
 use Rattle.std.specs.Prelude.{List}
 use Rattle.hd_delivery.specs.declared.vocabulary.Side.{Side}
 use Rattle.hd_delivery.specs.declared.vocabulary.Side.TheVariants.{Client, Server}
-use Rattle.hd_delivery.specs.Worlds.{Event, ByClient, ByServer, client_of, server_of}
+use Rattle.hd_delivery.specs.Histories.{EndEvent}
+use Rattle.hd_delivery.specs.Worlds.{Terms, config, Event, ByClient, ByServer, client_of, server_of}
+use Rattle.hd_delivery.specs.Bytes.{Wire, ByteStep, in_frames}
 
 -- the other side
 abbrev pub other : Side → Side
@@ -18,3 +20,7 @@ by Server s = ByServer s
 abbrev pub history : {S : Type 0} → Side → List (Event S) → List S
 history Client w = client_of w
 history Server w = server_of w
+
+-- the history of this side in frames
+abbrev pub frames_at : Wire → Terms → List (Event ByteStep) → Side → List EndEvent
+frames_at wire t w side = in_frames wire (config side t) (history side w)

@@ -14,8 +14,8 @@
 //! ```
 //!
 //! Proved: `take` gives the first of the bytes that were left, and `put` takes all of a piece, after
-//! those before; each fails if and only if its count of faults rises in that call, so no later call
-//! hides a fault.
+//! those before; each fails if and only if its count of faults rises in that call, and then by one,
+//! so no later call hides a fault, and two failed calls are told from one.
 //!
 //! The crate doesn't know frames, nor what the bytes say, and it neither waits nor tries again.
 #![tactic(auto)]

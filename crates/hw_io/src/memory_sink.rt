@@ -1,7 +1,7 @@
 //! A sink in memory, for tests.
 
 ghost use Rattle.std.specs.Prelude.{◌≡◌, ◌+◌, ◌-◌, ◌^◌, ◌<◌, ◌≤◌, ◌↔◌, ◌++◌, ◌⊎◌, [], length, take, Contains, IsErr, IfOk, OnOk, OnErr, Some};
-ghost use Rattle.hd_facts.specs.Counts.{HasCause};
+ghost use Rattle.hd_facts.specs.Counts.{CountsFailure, HasCause};
 ghost use Rattle.hd_facts.specs.Writes.{PutAppends};
 ghost use Rattle.hw_io.specs.Memory.{MemoryOutput, SinkFails, sink_after_failure, sink_after_taking};
 
@@ -80,6 +80,7 @@ impl Sink for MemorySink {
     fn put(&mut self, bytes: &[u8]) -> Result<(), Failed>
         ensures bytes { PutAppends (Some self.old.holds) (Some self.new.holds) result bytes.now }
         ensures cause { HasCause self.old.faults self.new.faults result }
+        ensures counted { CountsFailure self.old.faults self.new.faults result }
         ensures fails { IsErr result ↔ SinkFails self.old bytes.now }
         ensures failed { OnErr result (self.new ≡ sink_after_failure self.old) }
         ensures taken { OnOk result (self.new ≡ sink_after_taking bytes.now self.old) }

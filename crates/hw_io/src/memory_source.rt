@@ -3,7 +3,7 @@
 ghost use Rattle.std.specs.Prelude.{◌≡◌, ◌+◌, ◌-◌, ◌^◌, ◌<◌, ◌≤◌, ◌↔◌, ◌++◌, length, take, drop, min, Contains, IsErr, IfOk, IsOkAnd, OnErr, Some};
 ghost use Rattle.std.specs.Io.{ReadsAtMost};
 ghost use Rattle.std.specs.Io.KnownBytes.{ReadConsumes};
-ghost use Rattle.hd_facts.specs.Counts.{HasCause};
+ghost use Rattle.hd_facts.specs.Counts.{CountsFailure, HasCause};
 ghost use Rattle.hw_io.specs.Memory.{MemoryInput, SourceFails, source_after_failure, source_after_giving};
 
 use crate::failing::is_to_fail;
@@ -86,6 +86,7 @@ impl Source for MemorySource {
         ensures bound { ReadsAtMost result buf.new }
         ensures bytes { ReadConsumes (Some self.old.left) (Some self.new.left) result buf.new }
         ensures cause { HasCause self.old.faults self.new.faults result }
+        ensures counted { CountsFailure self.old.faults self.new.faults result }
         ensures fails { IsErr result ↔ SourceFails self.old }
         ensures failed { OnErr result (self.new ≡ source_after_failure self.old) }
         ensures untouched { OnErr result (buf.new ≡ buf.old) }

@@ -1,7 +1,7 @@
 -- How adding a user ends, by what the keeper answered and what was written.
 use Rattle.std.proofs.Common.{◌≡◌, ◌∙◌, ◌⊎◌, ℕ, inl, inr, Bool, true, false, if◌then◌else◌, List, [], take, Option, option_map, Ok, Err, refl, sym, subst}
 use Rattle.std.specs.Io.KnownBytes.{Appends}
-use Rattle.hd_facts.specs.Counts.{Rose}
+use Rattle.hd_facts.specs.Counts.{one_more}
 use Rattle.hd_rooms.specs.Kept.{Content, with_user}
 use Rattle.hk_keeper.specs.declared.keeper.KeepError.{KeepError}
 use Rattle.hk_keeper.specs.declared.keeper.KeepError.TheVariants as keep
@@ -22,7 +22,7 @@ kept_by asked false before now is = is
 -- the line of an answer was written, or a first part of it
 pub told : (asked : Adding) (is_new : Bool) (line : List ℕ) (status : Status) (b n : AddEnvironment) → IsAskedToAdd asked (Ok is_new) b n → line ≡ adding_line is_new
     → (status ≡ Done) ⊎ (status ≡ WriteFault) → (status ≡ Done → Appends b.holds n.holds line)
-    → (status ≡ WriteFault → Rose b.sink_faults n.sink_faults × ((count : ℕ) × Appends b.holds n.holds (take count line)))
+    → (status ≡ WriteFault → (n.sink_faults ≡ one_more b.sink_faults) × ((count : ℕ) × Appends b.holds n.holds (take count line)))
     → ((status ≡ WriteFault → ⊥) → n.sink_faults ≡ b.sink_faults) → EndsAdding asked status b n
 told asked is_new line status b n asks line_is (inl is) whole part unfailed =
     let kept : n.sink_faults ≡ b.sink_faults = unfailed (λ fault. let both : ◌≡◌ {A = Status} Done WriteFault = sym is ∙ fault in cc) in

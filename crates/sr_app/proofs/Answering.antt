@@ -3,7 +3,7 @@ use Rattle.std.proofs.Common.{rules, ◌≡◌, ◌<◌, ◌≤◌, ℕ, nat_eq,
 use Rattle.std.specs.Io.KnownBytes.{Appends, Consumes, IsAtEnd}
 use Rattle.std.proofs.lemmas.Bool.{cases_lt}
 use Rattle.std.proofs.lemmas.List.{append-nil}
-use Rattle.hd_facts.specs.Counts.{Rose}
+use Rattle.hd_facts.specs.Counts.{one_more}
 use Rattle.hd_facts.specs.Unique.{IsTheOne}
 use Rattle.hd_facts.specs.Writes.{IsText, Writes, WritesPart}
 use Rattle.hf_split.specs.Laws.{EmptyWaits}
@@ -157,7 +157,7 @@ apart result own other same (inr more) is = omega (arith, more, ap code_of same,
 -- ---- how a replay ends
 
 -- the source failed before the script was whole
-pub replay_unread : (input left held : Option (List ℕ)) (faults faults' sink : ℕ) → Rose faults faults' → ReadsBounded 16777216 input left
+pub replay_unread : (input left held : Option (List ℕ)) (faults faults' sink : ℕ) → faults' ≡ one_more faults → ReadsBounded 16777216 input left
     → Ends replaying ReadFault (input_output input faults held sink) (input_output left faults' held sink)
 replay_unread input left held faults faults' sink rose reads = record {
   done = λ is. cc;
@@ -191,7 +191,7 @@ pub record IsWritten (input left : Option (List ℕ)) (text : List ℕ) : Type 0
   pub reads : ReadsBounded 16777216 input left
 
 written_part : LongIsRefusedByItsFront → (input left before now : Option (List ℕ)) (faults faults' sink sink' : ℕ) (text answer : List ℕ) (status result : Status)
-    → IsWritten input left text → AnswersWith status text answer → Rose sink sink' → (n : ℕ) → Appends before now (take n answer) → result ≡ WriteFault
+    → IsWritten input left text → AnswersWith status text answer → sink' ≡ one_more sink → (n : ℕ) → Appends before now (take n answer) → result ≡ WriteFault
     → Ends replaying result (input_output input faults before sink) (input_output left faults' now sink')
 written_part law input left before now faults faults' sink sink' text answer status result w answers rose n part fault = record {
   done = λ is. absurd (apart result WriteFault Done fault (inr (omega arith)) is);
@@ -234,7 +234,7 @@ written_refusal law input left before now faults faults' sink sink' text answer 
 
 written_by : LongIsRefusedByItsFront → (input left before now : Option (List ℕ)) (faults faults' sink sink' : ℕ) (text answer : List ℕ) (status result : Status)
     → IsWritten input left text → AnswersWith status text answer → (result ≡ status → Appends before now answer)
-    → (result ≡ WriteFault → Rose sink sink' × ((n : ℕ) × Appends before now (take n answer))) → (result ≡ status) ⊎ (result ≡ WriteFault)
+    → (result ≡ WriteFault → (sink' ≡ one_more sink) × ((n : ℕ) × Appends before now (take n answer))) → (result ≡ status) ⊎ (result ≡ WriteFault)
     → Ends replaying result (input_output input faults before sink) (input_output left faults' now sink')
 written_by law input left before now faults faults' sink sink' text answer status result w answers whole part (inr fault) =
     written_part law input left before now faults faults' sink sink' text answer status result w answers (part fault).0 (part fault).1.0 (part fault).1.1 fault
@@ -319,7 +319,7 @@ soak_done seed steps totals input before now faults sink sink' result is whole s
 }
 
 pub soak_part : (seed steps : ℕ) (totals : Totals) (input before now : Option (List ℕ)) (faults sink sink' : ℕ) (result : Status) → IsSoak seed steps totals
-    → Rose sink sink' → (n : ℕ) → Appends before now (take n (soak_line seed steps totals)) → result ≡ WriteFault
+    → sink' ≡ one_more sink → (n : ℕ) → Appends before now (take n (soak_line seed steps totals)) → result ≡ WriteFault
     → Ends (soaking seed steps) result (input_output input faults before sink) (input_output input faults now sink')
 soak_part seed steps totals input before now faults sink sink' result is rose n part same = record {
   done = λ other. absurd (apart result WriteFault Done same (inr (omega arith)) other);

@@ -2,7 +2,7 @@
 use Rattle.std.proofs.Common.{◌≡◌, ◌≤◌, ◌<◌, ◌⊎◌, ℕ, inl, inr, List, [], ◌∷◌, ◌++◌, length, take, Option, Some, None, Result, Ok, Err, refl, sym, subst, ap, ◌∙◌, append-nil, arith, length-append, take_all, le_refl}
 use Rattle.std.specs.Io.KnownBytes.{Appends, Consumes, IsAtEnd}
 use Rattle.std.proofs.lemmas.Bool.{cases_lt}
-use Rattle.hd_facts.specs.Counts.{Rose}
+use Rattle.hd_facts.specs.Counts.{one_more}
 use Rattle.hd_facts.specs.Unique.{IsTheOne}
 use Rattle.hd_facts.specs.Writes.{IsText, Writes, WritesPart}
 use Rattle.he_wire.specs.Laws.{HasWire}
@@ -193,7 +193,7 @@ begun_of_whole asked input before now (text, lines, told, printed, appends) = (t
 
 -- a run ended so
 run_ends : (asked : Dialing) (status : Status) (input left before now : Option (List ℕ)) (faults faults' sink sink' : ℕ) → IsAtEnd left → ReadsBounded 1048576 input left
-    → (status ≡ WriteFault → Rose sink sink') → Writes (IsPrinted asked status) input before now
+    → (status ≡ WriteFault → sink' ≡ one_more sink) → Writes (IsPrinted asked status) input before now
     → Ends (dialing asked) status (input_output input faults before sink) (input_output left faults' now sink')
 run_ends asked status input left before now faults faults' sink sink' ended reads rose writes =
     let has : (other : Status) → IsOfNoRun other → status ≡ other → ⊥ = λ other none is. not_of_a_run other none writes.3.ran (sym is ∙ writes.3.status_is) in
@@ -210,7 +210,7 @@ run_ends asked status input left before now faults faults' sink sink' ended read
 
 -- none ran
 pub undialed_ends : (asked : Dialing) (status : Status) (input left : Option (List ℕ)) (faults faults' : ℕ) (b n : DialEnvironment) → ReadsBounded 1048576 input left
-    → (status ≡ ReadFault → Rose faults faults') → EndsUndialed status input b n
+    → (status ≡ ReadFault → faults' ≡ one_more faults) → EndsUndialed status input b n
     → Ends (dialing asked) status (input_output input faults b.holds b.failed.output) (input_output left faults' n.holds n.failed.output)
 undialed_ends asked Refused input left faults faults' b n reads rose ends = record {
   done = λ is. cc;
@@ -262,7 +262,7 @@ undialed_ends asked TurnsDone input left faults faults' b n reads rose none = ab
 
 -- ---- faults
 
-output_risen : (b n : Faults) (ran : Result Unit ClientError) → IsCausedBy b n ran → WriteFault ≡ status_of_run ran → Rose b.output n.output
+output_risen : (b n : Faults) (ran : Result Unit ClientError) → IsCausedBy b n ran → WriteFault ≡ status_of_run ran → n.output ≡ one_more b.output
 output_risen b n (Ok done) cause is = cc
 output_risen b n (Err over.Refused) cause is = cc
 output_risen b n (Err over.Dial) cause is = cc
@@ -352,7 +352,7 @@ memory_isnt_cut is = cc
 pub refused_ends : (asked : Dialing) (status : Status) (Goes : List DoorCall → Type 0) (IsUndialed : Type 0) (text : List ℕ) (number : ℕ) (drawn : Option (List (Option (List ℕ))))
     (held held' : Option (List ℕ)) (d l o o' : ℕ) → IsUndialed → RefusesText (Line number) text → (status ≡ Refused) ⊎ (status ≡ WriteFault) ⊎ (status ≡ NoMemory)
     → (status ≡ Refused → Appends held held' (refusal_line number))
-    → (status ≡ WriteFault → Rose o o' × ((k : ℕ) × Appends held held' (take k (refusal_line number)))) → ((status ≡ WriteFault → ⊥) → o' ≡ o) → (status ≡ NoMemory → held' ≡ held)
+    → (status ≡ WriteFault → (o' ≡ one_more o) × ((k : ℕ) × Appends held held' (take k (refusal_line number)))) → ((status ≡ WriteFault → ⊥) → o' ≡ o) → (status ≡ NoMemory → held' ≡ held)
     → EndsDialing asked status Goes IsUndialed (Some text) (dial_environment drawn held (faults d l o)) (dial_environment drawn held' (faults d l o'))
 refused_ends asked status Goes IsUndialed text number drawn held held' d l o o' undialed refuses (inl is) whole part unfailed same =
     inr (

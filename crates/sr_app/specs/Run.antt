@@ -2,7 +2,7 @@
 use Rattle.std.specs.Prelude.{◌≡◌, ◌≢◌, ◌≤◌, ◌+◌, ℕ, Bool, true, false, List, [], ◌∷◌, ◌++◌, length, take, codes, String, Option, option_map, is_none, IfSome, ◌⊎◌, Result, Ok, Err, IfOk}
 use Rattle.std.specs.Io.KnownBytes.{Appends, Consumes, IsAtEnd}
 use Rattle.std.specs.declared.alloc.Global.{Global}
-use Rattle.hd_facts.specs.Counts.{Rose}
+use Rattle.hd_facts.specs.Counts.{one_more}
 use Rattle.hd_facts.specs.Unique.{IsTheOne}
 use Rattle.hd_facts.specs.Writes.{IsText, Writes, WritesPart, WritesOfRead}
 use Rattle.hd_rooms.specs.declared.vocabulary.Asked.{Asked}
@@ -323,7 +323,7 @@ pub record Answered (text : List ℕ) (result : Status) (before now : Option (Li
   pub answer : List ℕ
   pub answers : AnswersWith status text answer
   pub whole : result ≡ status → Appends before now answer
-  pub part : result ≡ WriteFault → Rose faults faults' × ((n : ℕ) × Appends before now (take n answer))
+  pub part : result ≡ WriteFault → (faults' ≡ one_more faults) × ((n : ℕ) × Appends before now (take n answer))
   pub either : (result ≡ status) ⊎ (result ≡ WriteFault)
 
 -- What the source has left and the sink holds, where they tell it, and how often each has failed.
@@ -342,15 +342,15 @@ pub record Ends (m : Meaning) (status : Status) (before now : InputOutput) : Typ
   pub done : status ≡ Done → m.leaves now.left × Writes m.done before.left before.holds now.holds
   pub usage : status ≢ Usage
   pub refused : status ≡ Refused → Writes m.refused before.left before.holds now.holds
-  pub read_fault : status ≡ ReadFault → Rose before.source_faults now.source_faults
+  pub read_fault : status ≡ ReadFault → (now.source_faults ≡ one_more before.source_faults)
       × WritesOfRead m.read before.left now.left before.holds now.holds
-  pub write_fault : status ≡ WriteFault → Rose before.sink_faults now.sink_faults
+  pub write_fault : status ≡ WriteFault → (now.sink_faults ≡ one_more before.sink_faults)
       × WritesPart m.part before.left before.holds now.holds
   pub no_memory : status ≡ NoMemory → Writes m.begun before.left before.holds now.holds
   pub ended : IsEndedOutside status → m.leaves now.left × Writes (m.ended status) before.left before.holds now.holds
   pub reads : m.reads before.left now.left
 
--- No fault is passed over: a count of faults rises only if the status tells of that fault.
+-- No fault is passed over: a count of faults rises only if the status tells of that fault, and then by one (`Ends`).
 pub record TellsFaults (status : Status) (before now : InputOutput) : Type 0 where
   pub source : status ≢ ReadFault → now.source_faults ≡ before.source_faults
   pub sink : status ≢ WriteFault → now.sink_faults ≡ before.sink_faults
@@ -413,7 +413,7 @@ pub record HasDialed (asked : Dialing) (Goes : List DoorCall → Type 0) (input 
 abbrev pub EndsUndialed : Status → Option (List ℕ) → DialEnvironment → DialEnvironment → Type 0
 EndsUndialed Refused input before now = Writes IsNoScript input before.holds now.holds × (now.failed ≡ before.failed)
 EndsUndialed WriteFault input before now = WritesPart IsNoScript input before.holds now.holds
-    × Rose before.failed.output now.failed.output × (now.failed ≡ faults before.failed.dialer before.failed.lots now.failed.output)
+    × (now.failed.output ≡ one_more before.failed.output) × (now.failed ≡ faults before.failed.dialer before.failed.lots now.failed.output)
 EndsUndialed ReadFault input before now = Appends before.holds now.holds [] × (now.failed ≡ before.failed)
 EndsUndialed NoMemory input before now = Appends before.holds now.holds [] × (now.failed ≡ before.failed)
 EndsUndialed status input before now = ⊥
@@ -462,7 +462,7 @@ abbrev pub EndsAdding : Adding → Status → AddEnvironment → AddEnvironment 
 EndsAdding asked Done before now = (is_new : Bool) × IsAskedToAdd asked (Ok is_new) before now
     × Appends before.holds now.holds (adding_line is_new) × (now.sink_faults ≡ before.sink_faults)
 EndsAdding asked WriteFault before now = (is_new : Bool) × IsAskedToAdd asked (Ok is_new) before now
-    × ((n : ℕ) × Appends before.holds now.holds (take n (adding_line is_new))) × Rose before.sink_faults now.sink_faults
+    × ((n : ℕ) × Appends before.holds now.holds (take n (adding_line is_new))) × (now.sink_faults ≡ one_more before.sink_faults)
 EndsAdding asked KeeperFault before now = IsAskedToAdd asked (Err keep.Failed) before now × IsUnwritten before now
 EndsAdding asked NoMemory before now = IsAskedToAdd asked (Err keep.NoMemory) before now × IsUnwritten before now
 EndsAdding asked status before now = ⊥

@@ -2,7 +2,7 @@
 
 ghost use Rattle.std.specs.Prelude.{◌≡◌, ◌≢◌, ◌≤◌, ◌+◌, ◌⊎◌, ℕ, IfOk, Err, List, [], Option, Some, length, take};
 ghost use Rattle.std.specs.Io.KnownBytes.{Appends, Consumes, IsAtEnd};
-ghost use Rattle.hd_facts.specs.Counts.{Rose};
+ghost use Rattle.hd_facts.specs.Counts.{one_more};
 ghost use Rattle.hd_facts.specs.Writes.{Writes, WritesOfRead};
 ghost use Rattle.sr_check.specs.Stream.{IsTouchedByBytesAlone, most_piece};
 ghost use Rattle.sr_words.specs.Words.{Asks, IsNoCommand};
@@ -78,7 +78,7 @@ fn read_all<S: Source>(alloc: Global, most: usize, input: &mut S) -> Result<Vec<
     ensures short { IfOk result (λ text. length text.items ≤ most + most_piece) }
     ensures bounded { ReadsBounded most (S.left input.old) (S.left input.new) }
     ensures ended { IfOk result (λ text. length text.items ≤ most → IsAtEnd (S.left input.new)) }
-    ensures failed { result ≡ Err ReadError.Failed → Rose (S.faults input.old) (S.faults input.new) }
+    ensures failed { result ≡ Err ReadError.Failed → S.faults input.new ≡ one_more (S.faults input.old) }
     ensures unfailed { result ≢ Err ReadError.Failed → S.faults input.new ≡ S.faults input.old }
 {
     let mut text = Vec::new(alloc);
@@ -102,7 +102,7 @@ fn write<K: Sink>(out: &mut K, bytes: &[u8], status: Status) -> Status
     requires { status ≢ Status.WriteFault }
     ensures same { (result ≡ status) ⊎ (result ≡ Status.WriteFault) }
     ensures whole { result ≡ status → Appends (K.holds out.old) (K.holds out.new) bytes.now }
-    ensures part { result ≡ Status.WriteFault → Rose (K.faults out.old) (K.faults out.new)
+    ensures part { result ≡ Status.WriteFault → (K.faults out.new ≡ one_more (K.faults out.old))
         × ((n : ℕ) × Appends (K.holds out.old) (K.holds out.new) (take n bytes.now)) }
     ensures unfailed { result ≢ Status.WriteFault → K.faults out.new ≡ K.faults out.old }
     ensures touched { result ≢ Status.WriteFault → IsTouchedByBytesAlone K.holds out.old out.new }
@@ -121,7 +121,7 @@ fn write<K: Sink>(out: &mut K, bytes: &[u8], status: Status) -> Status
 fn refuse<K: Sink>(alloc: Global, number: u64, out: &mut K) -> Status
     ensures same { (result ≡ Status.Refused) ⊎ (result ≡ Status.WriteFault) ⊎ (result ≡ Status.NoMemory) }
     ensures whole { result ≡ Status.Refused → Appends (K.holds out.old) (K.holds out.new) (refusal_line number) }
-    ensures part { result ≡ Status.WriteFault → Rose (K.faults out.old) (K.faults out.new)
+    ensures part { result ≡ Status.WriteFault → (K.faults out.new ≡ one_more (K.faults out.old))
         × ((n : ℕ) × Appends (K.holds out.old) (K.holds out.new) (take n (refusal_line number))) }
     ensures unfailed { result ≢ Status.WriteFault → K.faults out.new ≡ K.faults out.old }
     ensures touched { result ≢ Status.WriteFault → IsTouchedByBytesAlone K.holds out.old out.new }
@@ -460,9 +460,10 @@ fn carry_out<S: Source, K: Sink, D: Door, C: Dialer, R: Keeper, L: Lots>(
 /// | 9 | `client`: the lots failed |
 /// | 10 | `client`: all its turns were done first |
 ///
-/// A fault of the input ends it with 3 and one of the output with 4: none is passed over. One of the door or the dialer ends it with 5: after the
-/// first call of it that failed it is only flushed. A fault of the keeper at any other question, or under `serve` of the lots, ends nothing, but that
-/// memory may be out then.
+/// A fault of the input ends it with 3 and one of the output with 4: none is passed over. Then one call failed, of that
+/// one, and neither was called after it. One of the door or the dialer ends it with 5: after the first call of it that
+/// failed it is only flushed. A fault of the keeper at any other question, or under `serve` of the lots, ends nothing,
+/// but that memory may be out then.
 ///
 /// `client` reads its script whole before it dials or draws anything.
 pub fn run<S: Source, K: Sink, D: Door, C: Dialer, R: Keeper, L: Lots>(
@@ -485,9 +486,9 @@ pub fn run<S: Source, K: Sink, D: Door, C: Dialer, R: Keeper, L: Lots>(
     ensures wrong_words { IsNoCommand words.now → (result ≡ 1) ⊎ (result ≡ 4) ⊎ (result ≡ 7) }
     ensures refused { result ≡ 2
         → AsksFor words.now (λ m. Writes m.refused (S.left input.old) (K.holds out.old) (K.holds out.new)) }
-    ensures read_fault { result ≡ 3 → Rose (S.faults input.old) (S.faults input.new)
+    ensures read_fault { result ≡ 3 → (S.faults input.new ≡ one_more (S.faults input.old))
         × AsksFor words.now (λ m. WritesOfRead m.read (S.left input.old) (S.left input.new) (K.holds out.old) (K.holds out.new)) }
-    ensures write_fault { result ≡ 4 → Rose (K.faults out.old) (K.faults out.new)
+    ensures write_fault { result ≡ 4 → (K.faults out.new ≡ one_more (K.faults out.old))
         × WritesPartFor words.now (S.left input.old) (K.holds out.old) (K.holds out.new) }
     ensures no_memory { result ≡ 7 → (out.new ≡ out.old)
         ⊎ AsksFor words.now (λ m. Writes m.begun (S.left input.old) (K.holds out.old) (K.holds out.new)) }

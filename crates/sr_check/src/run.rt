@@ -1,7 +1,7 @@
 //! A task from the beginning of its stream to its end.
 ghost use Rattle.std.specs.Prelude.{◌≡◌, ◌≢◌, OnOk, Err};
 ghost use Rattle.std.specs.Io.KnownBytes.{IsAtEnd};
-ghost use Rattle.hd_facts.specs.Counts.{Rose};
+ghost use Rattle.hd_facts.specs.Counts.{one_more};
 ghost use Rattle.sr_check.specs.Stream.{IsDone, IsStopped, IsBegun, IsAllSoFar, IsPart, IsTouchedByBytesAlone, ReadsNoFurther};
 ghost use Rattle.hd_facts.specs.Writes.{Writes, WritesPart, WritesOfRead};
 
@@ -17,8 +17,8 @@ impl Task {
     /// of the frames that a piece makes whole before it reads the next, up to the first that is refused.
     ///
     /// A fault that came is never passed over: the source has failed no more often than before unless this answers
-    /// `ReadFault`, and the sink unless it answers `WriteFault`. Where nothing was written the sink wasn't touched, unless
-    /// it failed.
+    /// `ReadFault`, and the sink unless it answers `WriteFault`. Then that one has failed once more and the other hasn't, so
+    /// neither is asked again after a call that failed. Where nothing was written the sink wasn't touched, unless it failed.
     pub fn run<S: Source, K: Sink>(
         self,
         alloc: Global,
@@ -27,9 +27,9 @@ impl Task {
     ) -> Result<(), Stop>
         ensures done { OnOk result (IsAtEnd (S.left input.new) × Writes (IsDone self) (S.left input.old) (K.holds out.old) (K.holds out.new)) }
         ensures refused { result ≡ Err Stop.Refused → Writes (IsStopped self) (S.left input.old) (K.holds out.old) (K.holds out.new) }
-        ensures read_fault { result ≡ Err Stop.ReadFault → Rose (S.faults input.old) (S.faults input.new)
+        ensures read_fault { result ≡ Err Stop.ReadFault → (S.faults input.new ≡ one_more (S.faults input.old))
             × WritesOfRead (IsAllSoFar self) (S.left input.old) (S.left input.new) (K.holds out.old) (K.holds out.new) }
-        ensures write_fault { result ≡ Err Stop.WriteFault → Rose (K.faults out.old) (K.faults out.new)
+        ensures write_fault { result ≡ Err Stop.WriteFault → (K.faults out.new ≡ one_more (K.faults out.old))
             × WritesPart (IsPart self) (S.left input.old) (K.holds out.old) (K.holds out.new) }
         ensures no_memory { result ≡ Err Stop.NoMemory → Writes (IsBegun self) (S.left input.old) (K.holds out.old) (K.holds out.new) }
         ensures no_further { ReadsNoFurther self (S.left input.old) (S.left input.new) }

@@ -1,7 +1,7 @@
 //! A stream that is followed piece by piece: what its frames are written as goes out once for each piece.
 ghost use Rattle.std.specs.Prelude.{◌≡◌, ◌≢◌, ◌<◌, ◌≤◌, ◌+◌, ◌^◌, ℕ, List, [], ◌++◌, length, take, Option, IfErr, OnOk, OnErr, Err, codes};
 ghost use Rattle.std.specs.Io.KnownBytes.{Appends, IsAtEnd};
-ghost use Rattle.hd_facts.specs.Counts.{Rose, HasCause};
+ghost use Rattle.hd_facts.specs.Counts.{CountsFailure, one_more};
 ghost use Rattle.hf_split.specs.Held.{at_start};
 ghost use Rattle.sr_check.specs.Output.{framing, last_text};
 ghost use Rattle.sr_check.specs.Stream.{IsDone, IsAllSoFar, IsTouchedByBytesAlone, ReadsNoFurther, most_bytes, most_frame};
@@ -31,7 +31,7 @@ fn put<K: Sink>(out: &mut K, output_buffer: &mut OutputBuffer) -> Result<(), Sto
     ensures ok { OnOk result (Appends (K.holds out.old) (K.holds out.new) output_buffer.old.text.items) }
     ensures err { OnErr result ((n : ℕ) × Appends (K.holds out.old) (K.holds out.new) (take n output_buffer.old.text.items)) }
     ensures fault { IfErr result (λ e. e ≡ Stop.WriteFault) }
-    ensures cause { HasCause (K.faults out.old) (K.faults out.new) result }
+    ensures counted { CountsFailure (K.faults out.old) (K.faults out.new) result }
     ensures untouched { output_buffer.old.text.items ≡ [] → out.new ≡ out.old }
     ensures touched { OnOk result (IsTouchedByBytesAlone K.holds out.old out.new) }
     ensures empty { output_buffer.new.text.items ≡ [] }
@@ -59,7 +59,7 @@ fn write_last<K: Sink>(
     requires { output_buffer.old.text.items ≡ [] }
     ensures last { IsLastPut result (last_text task at (first.now ++ words.now)) (K.holds out.old) (K.holds out.new) }
     ensures read { result ≢ Stop.ReadFault }
-    ensures fault { result ≡ Stop.WriteFault → Rose (K.faults out.old) (K.faults out.new) }
+    ensures fault { result ≡ Stop.WriteFault → K.faults out.new ≡ one_more (K.faults out.old) }
     ensures unfailed { result ≢ Stop.WriteFault → K.faults out.new ≡ K.faults out.old }
     ensures touched { result ≢ Stop.WriteFault → IsTouchedByBytesAlone K.holds out.old out.new }
 {
@@ -144,7 +144,7 @@ fn write_piece<K: Sink>(
         IsSoFar task splitter.old stream before (K.holds out.old) → OnOk result (IsSoFar task splitter.new (stream ++ piece.now) before (K.holds out.new)) }
     ensures ended { IfErr result (λ stop. (stream : List ℕ) (before : Option (List ℕ)) → length (stream ++ piece.now) < 2 ^ 64 →
         IsSoFar task splitter.old stream before (K.holds out.old) → Ends task stop (stream ++ piece.now) before (K.holds out.new)) }
-    ensures fault { result ≡ Err Stop.WriteFault → Rose (K.faults out.old) (K.faults out.new) }
+    ensures fault { result ≡ Err Stop.WriteFault → K.faults out.new ≡ one_more (K.faults out.old) }
     ensures unfailed { result ≢ Err Stop.WriteFault → K.faults out.new ≡ K.faults out.old }
     ensures touched { result ≢ Err Stop.WriteFault → IsTouchedByBytesAlone K.holds out.old out.new }
     ensures empty { output_buffer.new.text.items ≡ [] }
@@ -168,7 +168,7 @@ fn write_rest<K: Sink>(
     ensures ended { IfErr result (λ stop. (stream : List ℕ) (before : Option (List ℕ)) → length stream ≤ most_bytes →
         IsSoFar task splitter.now stream before (K.holds out.old) → EndsAt task stop stream before (K.holds out.new)) }
     ensures read { result ≢ Err Stop.ReadFault }
-    ensures fault { result ≡ Err Stop.WriteFault → Rose (K.faults out.old) (K.faults out.new) }
+    ensures fault { result ≡ Err Stop.WriteFault → K.faults out.new ≡ one_more (K.faults out.old) }
     ensures unfailed { result ≢ Err Stop.WriteFault → K.faults out.new ≡ K.faults out.old }
     ensures touched { result ≢ Err Stop.WriteFault → IsTouchedByBytesAlone K.holds out.old out.new }
 {
@@ -199,9 +199,9 @@ pub(crate) fn follow<S: Source, K: Sink>(
     requires { splitter.old ≡ at_start (framing task) most_frame }
     ensures done { OnOk result (IsAtEnd (S.left input.new) × Writes (IsDone task) (S.left input.old) (K.holds out.old) (K.holds out.new)) }
     ensures ended { IfErr result (λ stop. (stop ≢ Stop.ReadFault) → EndsInput task stop (S.left input.old) (K.holds out.old) (K.holds out.new)) }
-    ensures read_fault { result ≡ Err Stop.ReadFault → Rose (S.faults input.old) (S.faults input.new)
+    ensures read_fault { result ≡ Err Stop.ReadFault → (S.faults input.new ≡ one_more (S.faults input.old))
         × WritesOfRead (IsAllSoFar task) (S.left input.old) (S.left input.new) (K.holds out.old) (K.holds out.new) }
-    ensures write_fault { result ≡ Err Stop.WriteFault → Rose (K.faults out.old) (K.faults out.new) }
+    ensures write_fault { result ≡ Err Stop.WriteFault → K.faults out.new ≡ one_more (K.faults out.old) }
     ensures no_further { ReadsNoFurther task (S.left input.old) (S.left input.new) }
     ensures source_unfailed { result ≢ Err Stop.ReadFault → S.faults input.new ≡ S.faults input.old }
     ensures sink_unfailed { result ≢ Err Stop.WriteFault → K.faults out.new ≡ K.faults out.old }

@@ -3,7 +3,7 @@ use Rattle.std.proofs.Common.{◌≡◌, ℕ, ◌≤◌, Bool, List, refl, sym, 
 use Rattle.std.proofs.Common.{Result, Ok, Err}
 use Rattle.std.specs.Result.{IsErrAnd}
 use Rattle.std.proofs.lemmas.Result.{err_from_is_err_and}
-use Rattle.hd_facts.specs.Counts.{Rose}
+use Rattle.hd_facts.specs.Counts.{one_more}
 use Rattle.hw_door.specs.Calls.{IsCaused}
 use Rattle.hw_door.specs.declared.error.DoorError.{DoorError}
 use Rattle.hw_door.specs.declared.error.DoorError.TheVariants as door
@@ -40,11 +40,11 @@ cause_dialer old before now lots output why r same caused err =
     go door.Failed x = (x, refl)
     go door.NoMemory x = ap (λ d. faults d lots output) x
 
-pub cause_output : (old : Faults) (dialer lots before now : ℕ) (r : Result Bool ClientError) → faults dialer lots before ≡ old → before ≤ now → Rose before now
+pub cause_output : (old : Faults) (dialer lots before now : ℕ) (r : Result Bool ClientError) → faults dialer lots before ≡ old → before ≤ now → now ≡ one_more before
     → IsErrAnd r (λ e. e ≡ error.Write) → IsCausedBy old (faults dialer lots now) r
-cause_output old dialer lots before now r same later rose err =
+cause_output old dialer lots before now r same later once err =
     cause_err Bool Bool old (faults dialer lots now) error.Write r
-    (subst (λ o. IsCausedBy {T = Bool} o (faults dialer lots now) (Err error.Write)) same ((later, rose), refl)) err
+    (subst (λ o. IsCausedBy {T = Bool} o (faults dialer lots now) (Err error.Write)) same ((later, once), refl)) err
 
 pub cause_memory : (old new : Faults) (r : Result Bool ClientError) → new ≡ old → IsErrAnd r (λ e. e ≡ error.NoMemory) → IsCausedBy old new r
 cause_memory old new r same err = cause_err Bool Bool old new error.NoMemory r same err

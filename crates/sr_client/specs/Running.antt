@@ -1,7 +1,7 @@
 -- What is promised of a client's turn, and of a run of turns, over a dialer, lots and an output.
 use Rattle.std.specs.Prelude.{◌≡◌, ◌≢◌, ◌⊎◌, ◌≤◌, ◌<◌, ℕ, Bool, true, false, List, [], ◌∷◌, ◌++◌, Option, Result, Ok, Err}
 use Rattle.std.specs.Io.KnownBytes.{Appends}
-use Rattle.hd_facts.specs.Counts.{Rose}
+use Rattle.hd_facts.specs.Counts.{Rose, one_more}
 use Rattle.hm_message.specs.declared.message.Codec.{Codec}
 use Rattle.hd_delivery.specs.Worlds.{Limits}
 use Rattle.he_wire.specs.Wires.{IsHouseWire}
@@ -53,12 +53,16 @@ faults dialer lots output = record { dialer = dialer; lots = lots; output = outp
 abbrev pub HasRisen : ℕ → ℕ → Type 0
 HasRisen before now = (before ≤ now) × Rose before now
 
--- one of them failed only if its count rose, and then no other did. Else none did
+-- one call failed
+abbrev pub HasFailedOnce : ℕ → ℕ → Type 0
+HasFailedOnce before now = (before ≤ now) × (now ≡ one_more before)
+
+-- one of them failed only if its count rose, that of the output by one, and then no other did. Else none did
 abbrev pub IsCausedBy : {T : Type 0} → Faults → Faults → Result T ClientError → Type 0
 IsCausedBy old new (Ok answer) = new ≡ old
 IsCausedBy old new (Err error.Refused) = new ≡ old
 IsCausedBy old new (Err error.Dial) = HasRisen old.dialer new.dialer × (new ≡ faults new.dialer old.lots old.output)
-IsCausedBy old new (Err error.Write) = HasRisen old.output new.output × (new ≡ faults old.dialer old.lots new.output)
+IsCausedBy old new (Err error.Write) = HasFailedOnce old.output new.output × (new ≡ faults old.dialer old.lots new.output)
 IsCausedBy old new (Err error.Lots) = HasRisen old.lots new.lots × (new ≡ faults old.dialer new.lots old.output)
 IsCausedBy old new (Err error.NoMemory) = new ≡ old
 IsCausedBy old new (Err error.Turns) = new ≡ old

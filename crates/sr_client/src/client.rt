@@ -26,7 +26,7 @@ pub enum ClientError {
     /// The dialer failed, and its count of faults rose.
     #[error("the dialer failed")]
     Dial,
-    /// The output failed, and its count of faults rose.
+    /// The output failed in one call, and its count of faults rose by one.
     #[error("the output failed")]
     Write,
     /// The lots failed, and their count of faults rose.

@@ -1,7 +1,7 @@
 //! One turn of a client: it dials or hears, works, and says and prints what comes of that.
 
 ghost use Rattle.std.specs.Prelude.{◌≡◌, ◌≢◌, ◌≤◌, ◌+◌, ℕ, List, [], Option, true, false, not, Some as Given, None as Absent, Ok, Err, IfOk, OnOk, MatchResult, if◌then◌else◌};
-ghost use Rattle.hd_facts.specs.Counts.{HasCause};
+ghost use Rattle.hd_facts.specs.Counts.{CountsFailure, HasCause};
 ghost use Rattle.hd_facts.specs.Writes.{PutAppends};
 ghost use Rattle.hub_calc.specs.Client.{client_hub};
 ghost use Rattle.hd_calls.specs.Peers.{Settings};
@@ -497,6 +497,7 @@ fn put_all<K: Sink>(out: &mut K, printed: &[u8]) -> Result<(), Failed>
     ensures bytes { PutAppends (K.holds out.old) (K.holds out.new) result printed.now }
     ensures touched { OnOk result (IsTouchedByBytes K.holds out.old out.new) }
     ensures cause { HasCause (K.faults out.old) (K.faults out.new) result }
+    ensures counted { CountsFailure (K.faults out.old) (K.faults out.new) result }
 {
     if printed.is_empty() {
         return Ok(());

@@ -13,11 +13,11 @@ use Rattle.sr_script.specs.declared.action.Action.{Action}
 use Rattle.sr_script.specs.declared.action.Action.TheVariants.{Open, Accept, Lose, Write, Read, Close, Send, Tick}
 use Rattle.sr_script.specs.declared.action.Count.{Count}
 use Rattle.sr_script.specs.declared.action.Count.TheVariants.{UpTo, Everything}
-use Rattle.sr_replay.specs.Runs.{Run, Doing, Refuses, Sending, to_be_read, made_by, world_of, frames_at, Acts, Runs}
+use Rattle.sr_replay.specs.Runs.{Run, Doing, Refuses, Sending, to_be_read, made_by, world_of, Acts, Runs}
 use Rattle.sr_lines.specs.Lines.{refusal_words}
 use Rattle.hd_delivery.specs.Following.{Next, Follow, FollowAll, FollowUpTo}
 use Rattle.hd_delivery.specs.Alone.{writing, reading}
-use Rattle.hd_delivery.specs.Sides.{by, history}
+use Rattle.hd_delivery.specs.Sides.{by, history, frames_at}
 use Rattle.sr_script.specs.Script.{most_of}
 
 -- ---- steps that follow from one another

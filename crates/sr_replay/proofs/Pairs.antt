@@ -31,11 +31,11 @@ use Rattle.sr_replay.specs.declared.player.Player.{Player}
 use Rattle.sr_replay.specs.declared.pair.LinkBytes.{LinkBytes}
 use Rattle.sr_replay.specs.declared.pair.Pair.{Pair}
 use Rattle.sr_script.specs.Script.{opened, moment_after, IsInTurn, most_of}
-use Rattle.sr_replay.specs.Runs.{Doing, Makes, Refuses, Run, Acts, read_in_all, to_be_read, Sending, steps_of, world_of, attaching, losing, closing, ticking, frames_at}
+use Rattle.sr_replay.specs.Runs.{Doing, Makes, Refuses, Run, Acts, read_in_all, to_be_read, Sending, steps_of, world_of, attaching, losing, closing, ticking}
 use Rattle.sr_lines.specs.Lines.{refusal_words}
 use Rattle.hd_delivery.specs.Following.{FollowAll, FollowUpTo}
 use Rattle.hd_delivery.specs.Alone.{writing, reading}
-use Rattle.hd_delivery.specs.Sides.{other, by, history}
+use Rattle.hd_delivery.specs.Sides.{other, by, history, frames_at}
 use Rattle.sr_replay.specs.Report.{doing_text, run_text, report_text}
 use Rattle.sr_notation.specs.Words.{line_at}
 use Rattle.sr_lines.specs.Lines.{standing_line, standing_text}

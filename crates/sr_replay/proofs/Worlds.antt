@@ -24,8 +24,8 @@ use Rattle.sr_script.specs.declared.action.Action.TheVariants.{Open, Accept, Los
 use Rattle.sr_script.specs.declared.action.Count.{Count}
 use Rattle.sr_script.specs.declared.action.Count.TheVariants.{UpTo, Everything}
 use Rattle.sr_script.specs.Script.{IsInTurn, AreInTurn, opened, moment_after, most_of}
-use Rattle.sr_replay.specs.Runs.{Doing, Makes, Refuses, Run, world_of, attaching, losing, closing, ticking, Sending, made_by, to_be_read, frames_at, Acts, Runs}
-use Rattle.hd_delivery.specs.Sides.{by, history, other}
+use Rattle.sr_replay.specs.Runs.{Doing, Makes, Refuses, Run, world_of, attaching, losing, closing, ticking, Sending, made_by, to_be_read, Acts, Runs}
+use Rattle.hd_delivery.specs.Sides.{by, history, other, frames_at}
 use Rattle.hd_delivery.specs.Following.{Next, Follow, FollowUpTo}
 use Rattle.hd_delivery.specs.Alone.{IsOfFrame, writing, piece_fed, feeding, reading}
 use Rattle.hd_delivery.specs.AloneLaws.{FedIsLent, FramesAreTaken}

@@ -13,7 +13,8 @@ use Rattle.sr_script.specs.declared.action.Action.{Action}
 use Rattle.sr_script.specs.declared.action.Action.TheVariants.{Accept}
 use Rattle.sr_script.specs.Script.{Program, Parses, AreInTurn, opened, moment_after}
 use Rattle.sr_notation.specs.Terms.{limits_in, terms_in}
-use Rattle.sr_replay.specs.Runs.{Run, Runs, frames_at, world_of}
+use Rattle.hd_delivery.specs.Sides.{frames_at}
+use Rattle.sr_replay.specs.Runs.{Run, Runs, world_of}
 use Rattle.sr_replay.specs.Report.{report_text, IsReportOver, IsReport, IsReportOf}
 
 -- ---- runs

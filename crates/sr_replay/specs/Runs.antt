@@ -9,7 +9,7 @@ use Rattle.hd_delivery.specs.Histories as of
 use Rattle.hd_delivery.specs.Histories.{EndEvent, Attached, Detached, Sent, Ticked, Silenced, Closed, present_link, was_on, first_link, codec_of, is_resumable, is_closed, is_silence}
 use Rattle.hd_delivery.specs.Sending.{SendRefusal, IsRefusedToSend}
 use Rattle.hd_delivery.specs.Worlds.{Limits, MaySend, Terms, config, Event, ByClient, ByServer}
-use Rattle.hd_delivery.specs.Bytes.{Wire, sizes_of, ByteStep, Does, bytes_on, in_frames, lent_bytes}
+use Rattle.hd_delivery.specs.Bytes.{Wire, sizes_of, ByteStep, Does, bytes_on, lent_bytes}
 use Rattle.sr_script.specs.declared.action.Count.{Count}
 use Rattle.sr_script.specs.declared.action.Count.TheVariants.{UpTo, Everything}
 use Rattle.sr_script.specs.declared.action.Action.{Action}
@@ -17,7 +17,7 @@ use Rattle.sr_script.specs.declared.action.Action.TheVariants.{Open, Accept, Los
 use Rattle.sr_lines.specs.Lines.{refusal_words}
 use Rattle.sr_script.specs.Script.{opened, moment_after, most_of}
 use Rattle.hd_delivery.specs.Following.{FollowAll, FollowUpTo}
-use Rattle.hd_delivery.specs.Sides.{by, history, other}
+use Rattle.hd_delivery.specs.Sides.{by, history, other, frames_at}
 use Rattle.hd_delivery.specs.Alone.{writing, reading}
 
 -- ---- what one end does
@@ -85,10 +85,6 @@ abbrev pub to_be_read : Wire → Terms → List (Event ByteStep) → Side → Co
 to_be_read wire t w side count None = []
 to_be_read wire t w side count (Some link) =
     read_in_all count (length (bytes_on link (history side w))) (lent_bytes wire (config (other side) t) link (history (other side) w))
-
--- the history of a side in frames
-abbrev pub frames_at : Wire → Terms → List (Event ByteStep) → Side → List EndEvent
-frames_at wire t w side = in_frames wire (config side t) (history side w)
 
 -- After these actions and their run the action makes this. No call goes between ends alone.
 abbrev pub Acts : Limits → Wire → Terms → List Action → Run → Action → Run → Type 0

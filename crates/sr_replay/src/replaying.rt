@@ -2,7 +2,7 @@
 
 ghost use Rattle.std.specs.Prelude.{◌≡◌, ◌≢◌, ℕ, List, [], ◌∷◌, IfOk, OnOk, Err, take};
 ghost use Rattle.std.specs.Io.KnownBytes.{Appends};
-ghost use Rattle.hd_facts.specs.Counts.{Rose};
+ghost use Rattle.hd_facts.specs.Counts.{one_more};
 ghost use Rattle.hd_facts.specs.Unique.{IsTheOne};
 ghost use Rattle.sr_notation.specs.declared.setting.Setting.{Setting};
 ghost use Rattle.sr_notation.specs.Settings.{IsSetting};
@@ -47,7 +47,7 @@ pub struct Totals {
 /// Why no report was written whole.
 #[derive(Clone, Copy, Debug, PartialEq, Eq)]
 pub enum ReplayError {
-    /// The output failed. It may have taken a first part of the report.
+    /// The output failed in the one call. It may have taken a first part of the report.
     Write,
     /// Out of memory: nothing was written.
     NoMemory,
@@ -233,7 +233,7 @@ fn tell(alloc: Global, script: &Script) -> Result<Told, AllocError>
 pub fn replay<K: Sink>(alloc: Global, script: &Script, out: &mut K) -> Result<Totals, ReplayError>
     ensures ok { IfOk result (λ totals. (p : Program) → Parses script.now p → (text : List ℕ) × (IsReportOf p text
         × Appends (K.holds out.old) (K.holds out.new) text × (totals.links ≡ opened p.actions))) }
-    ensures write { result ≡ Err ReplayError.Write → Rose (K.faults out.old) (K.faults out.new) × ((p : Program) → Parses script.now p →
+    ensures write { result ≡ Err ReplayError.Write → (K.faults out.new ≡ one_more (K.faults out.old)) × ((p : Program) → Parses script.now p →
         (text : List ℕ) × (IsReportOf p text × ((n : ℕ) × Appends (K.holds out.old) (K.holds out.new) (take n text)))) }
     ensures no_memory { result ≡ Err ReplayError.NoMemory → out.new ≡ out.old }
     ensures unfailed { result ≢ Err ReplayError.Write → K.faults out.new ≡ K.faults out.old }

@@ -2,7 +2,7 @@
 use Rattle.std.specs.Prelude.{◌≡◌, ◌⊎◌, ◌≤◌, ℕ, Bool, List, [], ◌∷◌, ◌++◌, length, take, codes, option_map, Option, Some, None, IfSome, Result, Ok, Err}
 use Rattle.std.specs.Fmt.{decimal}
 use Rattle.std.specs.Io.KnownBytes.{Appends}
-use Rattle.hd_facts.specs.Counts.{Rose}
+use Rattle.hd_facts.specs.Counts.{Rose, one_more}
 use Rattle.hd_rooms.specs.declared.vocabulary.Asked.{Asked}
 use Rattle.hd_rooms.specs.declared.vocabulary.Asked.TheVariants as ask
 use Rattle.hd_rooms.specs.Kept.{row_count}
@@ -109,13 +109,13 @@ IsWhole before now = now.sink_faults ≡ before.sink_faults
 abbrev pub IsHeard : Environment → Environment → Type 0
 IsHeard before now = now.door_faults ≡ before.door_faults
 
--- by how it ended. The output's and the door's counts of faults rise only in the call that the answer tells of
+-- by how it ended. The output's and the door's counts of faults rise only in the call that the answer tells of, the output's by one
 abbrev pub Ends : List ℕ → ResendLimits → ℕ → ℕ → (List DoorCall → Type 0) → Environment → Environment → Result Unit ServeError → Type 0
 Ends base resend live turns Goes before now (Ok done) = Serves base resend live turns Goes None before now × IsWhole before now × IsHeard before now
 Ends base resend live turns Goes before now (Err end.Door) = Serves base resend live turns Goes (Some fault.Door) before now × IsWhole before now × Rose before.door_faults now.door_faults
 Ends base resend live turns Goes before now (Err end.Keeper) =
     IsUntouched Goes before now × IsWhole before now × IsHeard before now × HasFailed before.kept now.kept
-Ends base resend live turns Goes before now (Err end.Write) = BreaksOff Goes before now × IsHeard before now × Rose before.sink_faults now.sink_faults
+Ends base resend live turns Goes before now (Err end.Write) = BreaksOff Goes before now × IsHeard before now × (now.sink_faults ≡ one_more before.sink_faults)
 Ends base resend live turns Goes before now (Err end.NoMemory) =
     ((IsUntouched Goes before now × IsAskedAtMost before.kept now.kept) ⊎ Serves base resend live turns Goes (Some fault.NoMemory) before now)
     × IsWhole before now × IsHeard before now

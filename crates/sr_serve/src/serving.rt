@@ -2,7 +2,7 @@
 
 ghost use Rattle.std.specs.Prelude.{◌≡◌, ◌≢◌, ◌⊎◌, ◌∷◌, [], ℕ, IfOk, IfErr, OnOk, Err, is_ok, take};
 ghost use Rattle.std.specs.Io.KnownBytes.{Appends};
-ghost use Rattle.hd_facts.specs.Counts.{Rose};
+ghost use Rattle.hd_facts.specs.Counts.{one_more};
 ghost use Rattle.hub_server.specs.Steps.{outside};
 ghost use Rattle.sr_serve.specs.Serving.{Ends, environment, serving_line, error_of_keeper, error_of_server};
 ghost use Rattle.sr_serve.specs.declared.serving.ServeError.TheVariants as end;
@@ -20,7 +20,7 @@ use thiserror::Error;
 /// Why serving ended before its turns were done.
 #[derive(Clone, Copy, Debug, Drop, PartialEq, Eq, Error)]
 pub enum ServeError {
-    /// The output failed at the first line, and its count of faults rose. Nothing was heard.
+    /// The output failed at the first line, and its count of faults rose by one. Nothing was heard.
     #[error("the output failed")]
     Write,
     /// The door failed, and its count of faults rose.
@@ -66,7 +66,7 @@ impl From<AllocError> for ServeError {
 /// Writes how many rows the keeper has.
 fn tell_rows<K: Sink>(alloc: Global, rows: u64, out: &mut K) -> Result<(), ServeError>
     ensures told { OnOk result (Appends (K.holds out.old) (K.holds out.new) (serving_line rows)) }
-    ensures part { result ≡ Err end.Write → Rose (K.faults out.old) (K.faults out.new)
+    ensures part { result ≡ Err end.Write → (K.faults out.new ≡ one_more (K.faults out.old))
         × ((n : ℕ) × Appends (K.holds out.old) (K.holds out.new) (take n (serving_line rows))) }
     ensures unfailed { result ≢ Err end.Write → K.faults out.new ≡ K.faults out.old }
     ensures untouched { result ≡ Err end.NoMemory → out.new ≡ out.old }

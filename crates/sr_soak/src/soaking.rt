@@ -2,7 +2,7 @@
 
 ghost use Rattle.std.specs.Prelude.{◌≡◌, ◌≢◌, ℕ, List, [], ◌∷◌, suc, IfOk, OnOk, Err, take};
 ghost use Rattle.std.specs.Io.KnownBytes.{Appends};
-ghost use Rattle.hd_facts.specs.Counts.{Rose};
+ghost use Rattle.hd_facts.specs.Counts.{one_more};
 ghost use Rattle.hd_calls.specs.PeerWorlds.{Pair};
 ghost use Rattle.sr_script.specs.declared.action.Action.{Action};
 ghost use Rattle.sr_script.specs.Script.{opened};
@@ -186,7 +186,7 @@ pub fn soak<K: Sink>(
     out: &mut K,
 ) -> Result<Totals, ReplayError>
     ensures ok { IfOk result (λ totals. IsSoak seed steps totals × Appends (K.holds out.old) (K.holds out.new) (soak_line seed steps totals)) }
-    ensures write { result ≡ Err ReplayError.Write → Rose (K.faults out.old) (K.faults out.new)
+    ensures write { result ≡ Err ReplayError.Write → (K.faults out.new ≡ one_more (K.faults out.old))
         × ((totals : Totals) × (IsSoak seed steps totals × ((n : ℕ) × Appends (K.holds out.old) (K.holds out.new) (take n (soak_line seed steps totals))))) }
     ensures no_memory { result ≡ Err ReplayError.NoMemory → out.new ≡ out.old }
     ensures unfailed { result ≢ Err ReplayError.Write → K.faults out.new ≡ K.faults out.old }

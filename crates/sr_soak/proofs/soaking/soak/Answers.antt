@@ -11,7 +11,7 @@ returns-in-Ok-clause-ok g c =
 pub returns-clause-write : goal.returns-clause-write
 returns-clause-write g c = λ is.
     let line : c.as_bytes.result.now ≡ soak_line c.args.seed c.args.steps c.in_ok-totals.totals = c.as_bytes.ensures.value ∙ (c.in_ok-line.ensures.ok ∙ simp append_assoc) in (
-      c.in-Err.ensures.cause.failed,
+      c.in-Err.ensures.counted,
       (
         c.in_ok-totals.totals,
         (

@@ -94,7 +94,7 @@ returns-in_err-put_all-clause-cause g c = λ s script h stands fits.
     cause_output _ (g.C.Dialer.faults c.give.new.dialer) (g.L.Lots.faults c.begin.new.lots) (g.K.Sink.faults c.args.out.now) (g.K.Sink.faults c.put_all.new.out)
     c.from_residual-in_err-put_all.result
     (ap (λ d. faults d (g.L.Lots.faults c.begin.new.lots) (g.K.Sink.faults c.args.out.now)) c.in_ok-give.ensures.cause ∙ (c.in_ok-begin.ensures.cause s h (g.K.Sink.faults c.args.out.now) (standing_same s c.args.self.now _ h refl stands.standing) fits.timely))
-    c.in_err-put_all.ensures.cause.later c.in_err-put_all.ensures.cause.failed c.from_residual-in_err-put_all.ensures.1
+    c.in_err-put_all.ensures.cause.later c.in_err-put_all.ensures.counted c.from_residual-in_err-put_all.ensures.1
 
 pub returns-clause-cause : goal.returns-clause-cause
 returns-clause-cause g c = λ s script h stands fits.
