@@ -168,7 +168,8 @@ class Door:
     def __init__(self, moments, wires, failing, names=()):
         self.moments, self.wires, self.failing, self.names = list(moments), wires, set(failing), list(names)
         self.calls = self.moment = self.heard_at = self.given = self.first = self.waited = self.shuts = 0
-        # What the wires name now, which was heard last or, where nothing was, began a search by its name, and how many in a row began so.
+        # What the wires name now, which was heard last or, where nothing was, began a search by its name, and how many in a row began so since nothing was
+        # heard.
         self.named, self.last_wire, self.searches_by_name = (), 0, 0
         self.lanes = []
         # Since the last flush: whether there was a `send`, and how many calls of `next`.
@@ -480,6 +481,8 @@ class Door:
                     self.first = self.first if by_name else lane.place + 1
             elif lane.stage == "closing":
                 self.say(lane)
+        if event is None:
+            self.searches_by_name = 0
         return event
 
     def find(self, number):

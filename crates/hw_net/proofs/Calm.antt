@@ -1,6 +1,7 @@
 -- Lanes that are calm: a read that gives nothing leaves them as they are, and is their turn.
-use Rattle.std.proofs.Common.{◌≡◌, ◌<◌, ◌++◌, ◌∷◌, [], ◌&&◌, ◌⊎◌, ℕ, List, Bool, true, false, Option, None, Some, Result, Ok, Err, IfOk, option_map, set, get_or, refl, sym, ap, ◌∙◌, subst, inl, inr, arith, length, take}
+use Rattle.std.proofs.Common.{◌≡◌, ◌<◌, ◌++◌, ◌∷◌, [], ◌&&◌, ◌||◌, ◌⊎◌, if◌then◌else◌, ℕ, List, Bool, true, false, not, Option, None, Some, Result, Ok, Err, IfOk, option_map, set, get_or, refl, sym, ap, ◌∙◌, subst, inl, inr, arith, length, take}
 use Rattle.std.proofs.lemmas.List.{append-nil, get_or_default}
+use Rattle.hh_http.specs.Texts.{continue_text}
 use Rattle.hw_door.specs.declared.heard.Event.{Event}
 use Rattle.hw_door.specs.Traffic.{Answer}
 use Rattle.hw_socket.specs.Lane as socket
@@ -16,12 +17,14 @@ use Rattle.hw_net.specs.declared.protocol.Protocol.TheVariants.{Http, Response, 
 use Rattle.hw_net.specs.declared.protocol.Stage.{Stage}
 use Rattle.hw_net.specs.declared.protocol.Stage.TheVariants.{Live}
 use Rattle.hw_net.specs.FirstReads.{ReadsFirst, ReadsFirstAt, IsCalmLane, IsCalmProtocol}
-use Rattle.hw_net.specs.Lane.{Lane, waits, frames_of, is_late, is_live, is_drained, has_drained, is_stalled, has_stalled, after_hearing, after_turn, full_after_turn}
+use Rattle.hw_net.specs.HttpState.{HttpStateView}
+use Rattle.hw_net.specs.Lane.{Lane, waits, frames_of, is_late, is_live, is_drained, has_drained, is_overdue, is_stalled, has_stalled, after_hearing, after_turn, full_after_turn, out_after_continue}
 use Rattle.hw_net.specs.Lanes.{DoesHere}
 use Rattle.hw_net.specs.Tally.{has_unwritten, has_unwritten_by}
 use Rattle.hw_net.specs.WebSocketState.{WebSocketState, HearsWebSocket, ReadsInto, Finds, IsCalm, room_of}
 use Rattle.hw_net.specs.Trace.{Chooses, Reads, Gives, Tells}
 use Rattle.hw_net.specs.Turn.{Hears, Settles, LosesAt, Drains, Falls, TurnsLive, TurnsByFullness, TurnsAt, Listens}
+use Rattle.hw_net.proofs.HttpFacts.{still-hears as http-still-hears}
 use Rattle.hw_net.proofs.WebSocketFacts.{room-wants_read, input-of}
 use Rattle.hw_net.proofs.Telling.{tells-none}
 use Rattle.hw_net.proofs.Walking.{silent}
@@ -63,7 +66,7 @@ still-hears wire websocket_state answer calm h =
 -- ---- a lane
 
 still-input : (wire : ℕ) (protocol : Protocol) (answer : Answer) → IsCalmProtocol protocol → Reads wire PIECE answer (Some []) → Hears wire protocol protocol (answer ∷ []) input.Nothing
-still-input wire (Http http_state) answer calm h = absurd calm
+still-input wire (Http http_state) answer calm h = http-still-hears wire http_state answer calm h
 still-input wire (Response response_state) answer calm h = absurd calm
 still-input wire (Socket websocket_state) answer calm h = still-hears wire websocket_state answer calm h
 
@@ -71,13 +74,8 @@ pub calm-input : (lane : Lane) (first : List Answer) (buf : List ℕ) → ReadsF
 calm-input lane first buf h =
     subst (λ (l : List Answer). Hears lane.wire lane.protocol lane.protocol l input.Nothing) (sym h.1.1) (still-input lane.wire lane.protocol h.1.0 h.0.protocol h.1.2)
 
-in-time : (now since : ℕ) (protocol : Protocol) → IsCalmProtocol protocol → is_late now since protocol ≡ false
-in-time now since (Http http_state) calm = absurd calm
-in-time now since (Response response_state) calm = absurd calm
-in-time now since (Socket websocket_state) calm = refl
-
 frameless : (protocol : Protocol) → IsCalmProtocol protocol → frames_of protocol ≡ []
-frameless (Http http_state) calm = absurd calm
+frameless (Http http_state) calm = refl
 frameless (Response response_state) calm = absurd calm
 frameless (Socket websocket_state) calm = calm.written
 
@@ -94,11 +92,20 @@ second : (b : Bool) (A B : Type 0) → b ≡ false → B → Chooses b A B
 second true A B e h = absurd (cc e)
 second false A B e h = h
 
--- no 100 is said there
+-- no 100 is said on a lane of requests if none is due
+pub http-hearing : (lane : Lane) (http_state : HttpStateView) → lane.protocol ≡ Http http_state → http_state.awaits_continue ≡ false → after_hearing (Http http_state) lane ≡ lane
+http-hearing lane http_state is none =
+    let unsaid : record http_state { awaits_continue = false; continued = http_state.awaits_continue || http_state.continued } ≡ http_state =
+    ap (λ b. record http_state { awaits_continue = false; continued = b || http_state.continued }) none ∙ ap (λ b. record http_state { awaits_continue = b }) (sym none) in
+    let out : out_after_continue (Http http_state) lane.out ≡ lane.out = ap (λ b. if b && not http_state.continued then lane.out ++ continue_text else lane.out) none in
+    ap (λ (s : HttpStateView). record lane { protocol = Http s; out = out_after_continue (Http http_state) lane.out }) unsaid
+    ∙ ap (λ (l : List ℕ). record lane { protocol = Http http_state; out = l }) out ∙ ap (λ (p : Protocol). record lane { protocol = p }) (sym is)
+
+-- nor on a calm one
 calm-hearing : (lane : Lane) → IsCalmProtocol lane.protocol → after_hearing lane.protocol lane ≡ lane
 calm-hearing lane calm = go lane.protocol refl calm where
   go : (protocol : Protocol) → lane.protocol ≡ protocol → IsCalmProtocol protocol → after_hearing protocol lane ≡ lane
-  go (Http http_state) e calm = absurd calm
+  go (Http http_state) e calm = http-hearing lane http_state e calm.undue
   go (Response response_state) e calm = absurd calm
   go (Socket websocket_state) e calm = ap (λ (t : Protocol). record lane { protocol = t }) (sym e)
 
@@ -155,11 +162,11 @@ quiet-listens now lane first live unfull unwritten in_time hears hearing =
     let on : TurnsByFullness now lane lane first None = second (is_drained lane) _ _ (not-drained lane unfull) (second (is_stalled lane) _ _ (not-stalled lane unfull) (lane, turns, still)) in
     subst (λ (s : Stage). TurnsAt s now lane lane first None) (sym live) on
 
--- the turn of a calm lane whose wire gave nothing
-pub calm-listens : (now : ℕ) (lane : Lane) (first : List Answer) (buf : List ℕ) → ReadsFirst lane first buf NothingRead → Listens now lane lane first None
-calm-listens now lane first buf h =
+-- the turn of a calm lane that isn't overdue and whose wire gave nothing
+pub calm-listens : (now : ℕ) (lane : Lane) (first : List Answer) (buf : List ℕ) → is_overdue now lane ≡ false → ReadsFirst lane first buf NothingRead → Listens now lane lane first None
+calm-listens now lane first buf in_time h =
     let calm = h.0 in
-    quiet-listens now lane first calm.live calm.full (nothing-unwritten lane calm) (in-time now lane.since lane.protocol calm.protocol) (calm-input lane first buf h) (calm-hearing lane calm.protocol)
+    quiet-listens now lane first calm.live calm.full (nothing-unwritten lane calm) in_time (calm-input lane first buf h) (calm-hearing lane calm.protocol)
 
 -- ---- what calls that end with this come to
 

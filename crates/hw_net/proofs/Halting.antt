@@ -17,7 +17,7 @@ use Rattle.hw_net.specs.declared.protocol.Stage.TheVariants.{Live}
 use Rattle.hw_net.specs.Door.{Begins, kept, time_to_wait, with_accepted, index_of_first}
 use Rattle.hw_net.specs.FirstReads.{ReadsFirst, ReadsFirstAt, IsCalmProtocol}
 use Rattle.hw_net.specs.Halting.{HaltsHttp, HaltsResponse, HaltsSocket, HaltsIn, Halts, HaltsWithin, HaltsAll, HaltsNext, IsDue, IsLasting}
-use Rattle.hw_net.specs.HttpState.{HttpStateView, HearsHttp, Finds as HttpFinds, requests_of}
+use Rattle.hw_net.specs.HttpState.{HttpStateView, HearsHttp, Finds as HttpFinds, IsCalm as IsCalmHttp, requests_of}
 use Rattle.hw_net.specs.ResponseState.{ResponseStateView, HearsResponse, IsAnswered}
 use Rattle.hw_net.specs.Lane.{Lane, after_hearing}
 use Rattle.hw_net.specs.Lanes.{DoesHere}
@@ -163,6 +163,16 @@ calm-halts (Err why) lane before after buf got e h = λ first reads_first.
     let halts = h lane.wire reads_first.1.0 calm reads_first.1.2 in
     subst (λ (l : List Answer). HaltsIn lane.wire lane.protocol (Socket after) l) (sym reads_first.1.1)
     (subst (λ (p : Protocol). HaltsIn lane.wire p (Socket after) (reads_first.1.0 ∷ [])) (sym e) halts)
+
+pub calm-http-halts : {E : Type 0} (r : Result Input E) (lane : Lane) (before after : HttpStateView) (buf : List ℕ) (got : Option ℕ) → lane.protocol ≡ Http before →
+    OnErr r ((wire : ℕ) (answer : Answer) → IsCalmHttp before → Reads wire PIECE answer (option_map (λ n. take n buf) got) → HaltsHttp wire before after (answer ∷ [])) →
+    OnErr r ((first : List Answer) → ReadsFirst lane first buf (Read got) → HaltsIn lane.wire lane.protocol (Http after) first)
+calm-http-halts (Ok heard) lane before after buf got e h = h
+calm-http-halts (Err why) lane before after buf got e h = λ first reads_first.
+    let calm : IsCalmHttp before = subst (λ (p : Protocol). IsCalmProtocol p) e reads_first.0.protocol in
+    let halts = h lane.wire reads_first.1.0 calm reads_first.1.2 in
+    subst (λ (l : List Answer). HaltsIn lane.wire lane.protocol (Http after) l) (sym reads_first.1.1)
+    (subst (λ (p : Protocol). HaltsIn lane.wire p (Http after) (reads_first.1.0 ∷ [])) (sym e) halts)
 
 -- the same of what the lane speaks
 pub halts-in : {E : Type 0} (r : Result Input E) (a b : Option (List Answer)) (wire : ℕ) (protocol before after : Protocol) → protocol ≡ before →

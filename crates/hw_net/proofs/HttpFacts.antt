@@ -1,5 +1,5 @@
 -- How a look and a read come to one turn of a lane of requests.
-use Rattle.std.proofs.Common.{◌||◌, ◌+◌, ◌≡◌, ◌≤◌, ℕ, List, [], ◌++◌, true, false, Option, None, Some, refl, sym, ap, subst, ◌∙◌, arith, ◌⊎◌, inl, inr, is_some, IfOk, Result, Ok, Err, ◌<◌, length, Bool}
+use Rattle.std.proofs.Common.{◌||◌, ◌&&◌, not, ◌==◌, ◌+◌, ◌≡◌, ◌≤◌, ℕ, List, [], ◌++◌, ◌∷◌, true, false, Option, None, Some, refl, sym, ap, subst, ◌∙◌, arith, ◌⊎◌, inl, inr, is_some, IfOk, Result, Ok, Err, ◌<◌, length, min, take, option_map, Bool}
 use Rattle.std.proofs.lemmas.List.{append-nil, length-append}
 use Rattle.hw_lanes.specs.declared.http.Request.{Request}
 use Rattle.hw_lanes.specs.declared.http.Refusal.{Refusal}
@@ -11,8 +11,10 @@ use Rattle.hw_door.specs.Traffic.{Answer}
 use Rattle.hw_net.specs.declared.input.Input.{Input}
 use Rattle.hw_net.specs.declared.input.Input.TheVariants as input
 use Rattle.hw_net.specs.Input.{is_nothing}
-use Rattle.hw_net.specs.Trace.{bytes_of, IsAsked, Tells}
-use Rattle.hw_net.specs.HttpState.{HttpStateView, IsHttpState, HearsHttp, ReadsInto, Finds, IsInput, requests_of, room_of, AwaitsAfter, IsWaiting}
+use Rattle.hw_net.specs.declared.limits.TheConstants.{PIECE}
+use Rattle.hw_net.specs.Trace.{bytes_of, Gives, IsAsked, Reads, Tells}
+use Rattle.hw_net.specs.HttpState.{HttpStateView, IsHttpState, HearsHttp, ReadsInto, Finds, IsCalm, IsInput, is_awake, requests_of, room_of, AwaitsAfter, IsWaiting}
+use Rattle.hw_net.proofs.Shares.{equal}
 
 -- what a look adds to the requests that were heard
 abbrev pub Adds : HttpStateView → HttpStateView → Input → Type 0
@@ -250,3 +252,69 @@ pub looked-all : {E : Type 0} (a b : Option (List Answer)) (wire : ℕ) (before 
     IfOk r (λ heard. (answers : List Answer) × Tells a b answers × HearsHttp wire before after answers heard)
 looked-all a b wire before mid after (Ok heard) h f adds = (h.0, h.1, hears-looked wire before mid after h.0 heard h.2 f adds)
 looked-all a b wire before mid after (Err e) h f adds = f
+
+-- ---- after a first look
+
+-- one of which nothing is known that may be heard or said before more bytes come
+pub calm-of : (http_state : HttpStateView) (room : ℕ) → IsHttpState http_state.lane http_state.busy http_state.has_unparsed → is_awake http_state ≡ false → http_state.awaits_continue ≡ false → room ≡ room_of http_state.lane →
+    (room == PIECE) ≡ true → IsCalm http_state
+calm-of http_state room sound asleep undue is size = record {
+  asleep = asleep;
+  undue = undue;
+  waiting = λ free. (sound.looked (looked http_state.has_unparsed http_state.busy _ asleep free)).1;
+  room = sym is ∙ equal room PIECE size;
+} where
+  looked : (a b c : Bool) → ((a && not b) || c) ≡ false → b ≡ false → a ≡ false
+  looked false b c e f = refl
+  looked true true c e f = cc f
+  looked true false c e f = cc e
+
+-- the wire of a calm lane was read
+pub calm-gives : (wire : ℕ) (before : HttpStateView) (answer : Answer) (got : Option (List ℕ)) → IsCalm before → Reads wire PIECE answer got → Gives wire (room_of before.lane) (answer ∷ []) got
+calm-gives wire before answer got calm h =
+    let room = calm.room in
+    (omega (arith, room), subst (λ n. Reads wire n answer got) (sym room) h)
+
+-- nothing came
+pub still-hears : (wire : ℕ) (http_state : HttpStateView) (answer : Answer) → IsCalm http_state → Reads wire PIECE answer (Some []) → HearsHttp wire http_state http_state (answer ∷ []) input.Nothing
+still-hears wire http_state answer calm h =
+    record {
+      mid = http_state.lane;
+      held = refl;
+      busy = λ _. refl;
+      got = Some [];
+      read = calm-gives wire http_state answer (Some []) calm h;
+      asks = λ bytes requests a. rw (append-nil bytes) (rw (append-nil requests) a);
+      is_input = (refl, λ had. omega arith, refl, calm.waiting);
+      continued = refl;
+    }
+
+-- what a read gives of which no more is taken than there is room for
+abbrev pub TakesUpTo : HttpStateView → HttpStateView → ℕ → List ℕ → Type 0
+TakesUpTo before mid taken buf =
+    (bytes : List ℕ) (requests : List Request) → Asks bytes requests before.lane.held → Asks (bytes ++ take taken buf) requests mid.lane.held
+
+-- a calm lane takes all of it
+takes-all : (before mid : HttpStateView) (count taken : ℕ) (buf : List ℕ) → count ≤ PIECE → taken ≡ min count (room_of before.lane) → IsCalm before → TakesUpTo before mid taken buf → TakesUpTo before mid count buf
+takes-all before mid count taken buf small is calm takes =
+    let room = calm.room in
+    let whole : taken ≡ count = omega (arith, is, room, small) in
+    subst (λ n. TakesUpTo before mid n buf) whole takes
+
+-- bytes came, and then what is held is looked at
+pub hears-after : {E : Type 0} (r : Result Input E) (before mid after : HttpStateView) (count taken : ℕ) (buf : List ℕ) (got : Option ℕ) → got ≡ Some count → count ≤ PIECE → taken ≡ min count (room_of before.lane) →
+    (mid.busy ≡ before.busy) × (mid.continued ≡ before.continued) → TakesUpTo before mid taken buf → IfOk r (λ heard. Finds mid after heard) → IfOk r (λ heard. Adds mid after heard) →
+    IfOk r (λ heard. (wire : ℕ) (answer : Answer) → IsCalm before → Reads wire PIECE answer (option_map (λ n. take n buf) got) → HearsHttp wire before after (answer ∷ []) heard)
+hears-after (Ok heard) before mid after count taken buf got e small is same takes f adds = λ wire answer calm h.
+    let read : Reads wire PIECE answer (Some (take count buf)) = subst (λ (o : Option ℕ). Reads wire PIECE answer (option_map (λ n. take n buf) o)) e h in
+    let into : ReadsInto wire before mid (answer ∷ []) true = record {
+      got = Some (take count buf);
+      read = calm-gives wire before answer (Some (take count buf)) calm read;
+      asked = λ _. omega arith;
+      whole = refl;
+      busy = same.0;
+      continued = same.1;
+      asks = takes-all before mid count taken buf small is calm takes;
+    } in
+    hears-looked wire before mid after (answer ∷ []) heard into f adds
+hears-after (Err why) before mid after count taken buf got e small is same takes f adds = f

@@ -8,7 +8,7 @@ use Rattle.hw_door.specs.declared.heard.Event.{Event}
 use Rattle.hw_door.specs.declared.heard.Event.TheVariants as event
 use Rattle.hw_door.specs.declared.heard.Heard.{Heard}
 use Rattle.hw_door.specs.Traffic.{Answer, polled, accepted}
-use Rattle.hw_net.specs.Door.{DoorState, Searches, HearsNext, kept, with_accepted, time_to_wait, index_of_first, lane_of, number_after, from_after}
+use Rattle.hw_net.specs.Door.{DoorState, Searches, HearsNext, kept, with_accepted, time_to_wait, index_of_first, lane_of, number_after, from_after, named_after}
 use Rattle.hw_net.specs.Lane.{Lane, wires_of, is_over}
 use Rattle.hw_net.specs.Reaching.{is_before, passes_over, HasListened, OthersListen, PassesOver, AllPassOver, nexts, came_among, arrivals, LanesAreReached}
 use Rattle.hw_net.specs.Rising.{IsRising}
@@ -147,19 +147,21 @@ not-zero : (n : ℕ) → (n + 1 == 0) ≡ false
 not-zero n = grind (arith, nat_tests)
 
 advances : (from named begin after_named after_from lane : ℕ) (trace : Option Event) (wires : List ℕ) → lane < 2 ^ 64 →
-    ((begin ≡ from) × (after_named ≡ 0)) ⊎ ((named < 64) × (after_named ≡ named + 1)) → after_from ≡ from_after after_named from trace →
+    (begun : ℕ) × (((begin ≡ from) × (begun ≡ 0)) ⊎ ((named < 64) × (begun ≡ named + 1))) × (after_named ≡ named_after begun trace) → after_from ≡ from_after after_named from trace →
     passes_over begin lane trace ≡ true → ((heard : Event) → trace ≡ Some heard → Among wires (lane_of heard)) →
     65 * in_front after_from lane wires + (64 - after_named) + 1 ≤ 65 * in_front from lane wires + (64 - named)
 advances from named begin after_named after_from lane None wires below begins f over has = absurd (cc over)
-advances from named begin after_named after_from lane (Some heard) wires below (inl b) f over has =
-    let at : after_from ≡ number_after (lane_of heard) = f ∙ ap (λ n. from_after n from (Some heard)) b.1 in
+advances from named begin after_named after_from lane (Some heard) wires below (begun, inl b, same_named) f over has =
+    let none : after_named ≡ 0 = same_named ∙ b.1 in
+    let at : after_from ≡ number_after (lane_of heard) = f ∙ ap (λ n. from_after n from (Some heard)) none in
     let less = nearer from lane (lane_of heard) wires below (subst (λ n. is_before n (lane_of heard) lane ≡ true) b.0 over) (has heard refl) in
     let same : in_front after_from lane wires ≡ in_front (number_after (lane_of heard)) lane wires = ap (λ n. in_front n lane wires) at in
-    omega (arith, less, same, b.1)
-advances from named begin after_named after_from lane (Some heard) wires below (inr b) f over has =
-    let at : after_from ≡ from = f ∙ ap (λ n. from_after n from (Some heard)) b.1 ∙ ap (λ v. if v then number_after (lane_of heard) else from) (not-zero named) in
+    omega (arith, less, same, none)
+advances from named begin after_named after_from lane (Some heard) wires below (begun, inr b, same_named) f over has =
+    let more : after_named ≡ named + 1 = same_named ∙ b.1 in
+    let at : after_from ≡ from = f ∙ ap (λ n. from_after n from (Some heard)) more ∙ ap (λ v. if v then number_after (lane_of heard) else from) (not-zero named) in
     let same : in_front after_from lane wires ≡ in_front from lane wires = ap (λ n. in_front n lane wires) at in
-    omega (arith, same, b.0, b.1)
+    omega (arith, same, b.0, more)
 
 came : (f : ℕ → Bool) (now wait polled_at : ℕ) (wire : Option ℕ) (lanes : List Lane) (turns answers : List Answer) → answers ≡ polled wait polled_at ∷ accepted wire ∷ turns →
     count f (wires_of (with_accepted now wire lanes)) ≤ count f (wires_of lanes) + came_among answers

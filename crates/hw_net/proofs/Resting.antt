@@ -1,11 +1,10 @@
 -- Lanes that rest, as far as a door knows: a turn in which nothing comes would leave them as they are.
-use Rattle.std.proofs.Common.{◌≡◌, ◌<◌, ◌≤◌, ◌&&◌, ◌||◌, if◌then◌else◌, ◌++◌, ◌∷◌, [], ℕ, zero, suc, Bool, true, false, not, List, Option, None, Some, is_some, refl, sym, ap, ◌∙◌, subst, inl, inr, arith, ◌+◌, length, set, take, get_or, Contains}
+use Rattle.std.proofs.Common.{◌≡◌, ◌<◌, ◌≤◌, ◌&&◌, ◌||◌, ◌++◌, ◌∷◌, [], ℕ, zero, suc, Bool, true, false, not, List, Option, None, Some, is_some, refl, sym, ap, ◌∙◌, subst, inl, inr, arith, ◌+◌, length, set, take, get_or, Contains}
 use Rattle.std.specs.List.{All}
 use Rattle.std.proofs.lemmas.List.{append-nil, nil_from_length}
 use Rattle.std.proofs.lemmas.List.Elements.{All-append, All-contains, All-filter, All-nil, All-cons, All-more, All-set}
 use Rattle.hw_lanes.specs.declared.http.Request.{Request}
 use Rattle.hh_http.specs.Asks.{Asks}
-use Rattle.hh_http.specs.Texts.{continue_text}
 use Rattle.hw_door.specs.Traffic.{Answer, not_yet}
 use Rattle.hw_net.specs.declared.full.Fullness.{Fullness}
 use Rattle.hw_net.specs.declared.input.Input.TheVariants as input
@@ -15,13 +14,13 @@ use Rattle.hw_net.specs.declared.protocol.Stage.{Stage}
 use Rattle.hw_net.specs.declared.protocol.Stage.TheVariants.{Live, Lost, Closing, Over}
 use Rattle.hw_net.specs.Door.{IsNothing, RestsAt, kept}
 use Rattle.hw_net.specs.HttpState.{HttpStateView, IsHttpState, IsWaiting, HearsHttp, room_of, is_awake as http_is_awake}
-use Rattle.hw_net.specs.Lane.{Lane, waits, frames_of, is_awake, is_awake_by, is_drained, is_live, is_late, is_over, has_drained, out_after_continue, after_hearing}
+use Rattle.hw_net.specs.Lane.{Lane, waits, frames_of, is_awake, is_awake_by, is_drained, is_live, is_late, is_over, has_drained, after_hearing}
 use Rattle.hw_net.specs.Resting.{IsSound, IsKnown}
 use Rattle.hw_net.specs.Saying.{SaysAt}
 use Rattle.hw_net.specs.Tally.{has_unwritten, has_unwritten_by, is_restless, only_waits_by}
 use Rattle.hw_net.specs.Turn.{Hears, TurnsAt}
 use Rattle.hw_net.specs.WebSocketState.{WebSocketState, IsCalm}
-use Rattle.hw_net.proofs.Calm.{quiet-listens, still-hears}
+use Rattle.hw_net.proofs.Calm.{http-hearing, quiet-listens, still-hears}
 use Rattle.hw_net.proofs.ResponseFacts.{still-response}
 use Rattle.hw_net.proofs.Walking.{silent}
 
@@ -111,14 +110,7 @@ http-still : (lane : Lane) (http_state : HttpStateView) → lane.protocol ≡ Ht
     not http_state.awaits_continue ≡ true → StillAt lane (Http http_state)
 http-still lane http_state is sound asleep undue =
     let h = still-http lane.wire http_state sound asleep in
-    let none = is-false http_state.awaits_continue undue in
-    let unsaid : record http_state { awaits_continue = false; continued = http_state.awaits_continue || http_state.continued } ≡ http_state =
-    ap (λ b. record http_state { awaits_continue = false; continued = b || http_state.continued }) none ∙ ap (λ b. record http_state { awaits_continue = b }) (sym none) in
-    let out : out_after_continue (Http http_state) lane.out ≡ lane.out = ap (λ b. if b && not http_state.continued then lane.out ++ continue_text else lane.out) none in
-    let same : after_hearing (Http http_state) lane ≡ lane =
-    ap (λ (s : HttpStateView). record lane { protocol = Http s; out = out_after_continue (Http http_state) lane.out }) unsaid
-    ∙ ap (λ (l : List ℕ). record lane { protocol = Http http_state; out = l }) out ∙ ap (λ (p : Protocol). record lane { protocol = p }) (sym is) in
-    (h.0, h.1, h.2, same)
+    (h.0, h.1, h.2, http-hearing lane http_state is (is-false http_state.awaits_continue undue))
 
 socket-still : (lane : Lane) (websocket_state : WebSocketState) → lane.protocol ≡ Socket websocket_state → IsSound (Socket websocket_state) → (not websocket_state.wants_read || websocket_state.last_read_was_full) ≡ false →
     (not websocket_state.lost_bytes && not (is_some websocket_state.lane.ending)) ≡ true → websocket_state.lane.out.bytes ≡ [] → StillAt lane (Socket websocket_state)

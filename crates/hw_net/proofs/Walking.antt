@@ -130,13 +130,13 @@ walks-after-look a b c d now heard begin index all cur after buf first_look le w
 
 -- one that gave nothing was the lane's turn
 pub walks-still : (a b c : Option (List Answer)) (now : ℕ) (begin index : ℕ) (all cur : List Lane) (buf : List ℕ) (first_look : FirstRead) → begin ≤ index → index < length all → index < length cur →
-    ((lane : Lane) (first : List Answer) → ReadsFirst lane first buf NothingRead → Listens now lane lane first None) → first_look ≡ NothingRead →
+    ((lane : Lane) (first : List Answer) → get_or cur index lane ≡ lane → ReadsFirst lane first buf NothingRead → Listens now lane lane first None) → first_look ≡ NothingRead →
     ((answers : List Answer) × Tells a b answers × Walks now None begin index all cur answers None) →
     ((answers : List Answer) × Tells b c answers × ReadsFirstAt index cur answers buf first_look) →
     (answers : List Answer) × Tells a c answers × Walks now None begin (index + 1) all cur answers None
 walks-still a b c now begin index all cur buf first_look le within inside listens still h look =
     let lane = look.2.0 in
-    let turn = listens lane look.0 (subst (λ x. ReadsFirst lane look.0 buf x) still look.2.2) in
+    let turn = listens lane look.0 look.2.1 (subst (λ x. ReadsFirst lane look.0 buf x) still look.2.2) in
     let walked = walk-more now None begin index all cur lane lane h.0 look.0 None None le within inside look.2.1 h.2 turn in
     let same : set cur index lane ≡ cur = ap (λ (l : Lane). set cur index l) (sym look.2.1) ∙ set-get_or cur index lane in
     (h.0 ++ look.0, tells-more a b c h.0 look.0 h.1 look.1, subst (λ (l : List Lane). Walks now None begin (index + 1) all l (h.0 ++ look.0) None) same walked)

@@ -15,7 +15,7 @@ use Rattle.hw_net.specs.Saying.{Says}
 use Rattle.hw_net.specs.Turn.{Listens, TurnAll, AtLane}
 
 -- the lanes, the number from which on they come first in the next search that begins with no named one, how many searches in a row began
--- with a named one, and the moment of what was heard last
+-- with a named one since one heard nothing, and the moment of what was heard last
 pub record DoorState : Type 0 where
   pub lanes : List Lane
   pub from : ℕ
@@ -84,6 +84,16 @@ lane_of event.Quiet = 0
 -- a search begins at this number: that from which on lanes come first, or any other, though only so many times in a row
 abbrev pub Begins : DoorState → ℕ → ℕ → Type 0
 Begins before begin named = ((begin ≡ before.from) × (named ≡ 0)) ⊎ ((before.named < MOST_NAMED) × (named ≡ before.named + 1))
+
+-- how many in a row began with a named lane after a search that heard this: one that hears nothing begins that count anew, as each lane
+-- listened in it or rests
+abbrev pub named_after : ℕ → Option Event → ℕ
+named_after named None = 0
+named_after named (Some heard) = named
+
+-- the same of a search that hears this, if anything
+abbrev pub Counts : DoorState → ℕ → ℕ → Option Event → Type 0
+Counts before begin named trace = (begun : ℕ) × Begins before begin begun × (named ≡ named_after begun trace)
 
 -- the number after this one: after the last of 64 bits comes 0
 abbrev pub number_after : ℕ → ℕ
@@ -160,7 +170,7 @@ pub record HearsNext (wait : ℕ) (before after : DoorState) (answers : List Ans
   pub trace : Option Event
   pub all : answers ≡ polled (time_to_wait wait (kept before.lanes)) now ∷ accepted wire ∷ turns
   pub moment : heard.now ≡ max now before.moment
-  pub begins : Begins before begin after.named
+  pub begins : Counts before begin after.named trace
   pub hears : Searches heard.now begin (with_accepted heard.now wire (kept before.lanes)) after.lanes turns trace
   pub event_is : heard.event ≡ unwrap_or trace event.Quiet
   pub from : after.from ≡ from_after after.named before.from trace
@@ -184,5 +194,5 @@ DoesAt lane Does before after answers =
 -- the turns of all lanes, which end with this event
 abbrev pub HearsTurns : ℕ → DoorState → DoorState → List Answer → Event → Type 0
 HearsTurns now before after answers heard =
-    (trace : Option Event) × (begin : ℕ) × Begins before begin after.named × Searches now begin before.lanes after.lanes answers trace
+    (trace : Option Event) × (begin : ℕ) × Counts before begin after.named trace × Searches now begin before.lanes after.lanes answers trace
     × (heard ≡ unwrap_or trace event.Quiet) × (after.from ≡ from_after after.named before.from trace) × (after.moment ≡ before.moment)

@@ -7,12 +7,13 @@ use Rattle.hw_net.specs.declared.limits.TheConstants.{PIECE}
 use Rattle.hw_net.specs.declared.protocol.Protocol.{Protocol}
 use Rattle.hw_net.specs.declared.protocol.Protocol.TheVariants.{Http, Response, Socket}
 use Rattle.hw_net.specs.declared.protocol.Stage.TheVariants.{Live}
+use Rattle.hw_net.specs.HttpState.{IsCalm as IsCalmHttp}
 use Rattle.hw_net.specs.Lane.{Lane}
 use Rattle.hw_net.specs.WebSocketState.{IsCalm}
 use Rattle.hw_net.specs.Trace.{Reads}
 
 abbrev pub IsCalmProtocol : Protocol → Type 0
-IsCalmProtocol (Http http_state) = ⊥
+IsCalmProtocol (Http http_state) = IsCalmHttp http_state
 IsCalmProtocol (Response response_state) = ⊥
 IsCalmProtocol (Socket websocket_state) = IsCalm websocket_state
 

@@ -103,6 +103,13 @@ Finds before after input.Gone = ⊥
 abbrev pub is_awake : HttpStateView → Bool
 is_awake http_state = (http_state.has_unparsed && not http_state.busy) || (http_state.last_read_was_full && nat_lt 0 (room_of http_state.lane))
 
+-- nothing is to be heard before more bytes come, and no 100 is to be said; and there is room for all that one read may give
+pub record IsCalm (http_state : HttpStateView) : Type 0 where
+  pub asleep : is_awake http_state ≡ false
+  pub undue : http_state.awaits_continue ≡ false
+  pub waiting : http_state.busy ≡ false → IsWaiting http_state.lane
+  pub room : room_of http_state.lane ≡ PIECE
+
 -- the input is that of the bytes held
 abbrev pub IsInput : HttpStateView → HttpStateView → List Answer → Option (List ℕ) → Input → Type 0
 IsInput before after answers got input.Nothing =

@@ -1,17 +1,20 @@
 //! A lane while it is one of requests. It knows nothing of what is written.
 
-ghost use Rattle.std.specs.Prelude.{◌≡◌, ◌≤◌, ◌||◌, ◌++◌, List, ℕ, false, true, not, length, IfOk, OnErr};
+ghost use Rattle.std.specs.Prelude.{◌≡◌, ◌≤◌, ◌||◌, ◌++◌, ◌∷◌, [], List, ℕ, false, true, not, length, take, option_map, IfOk, IfSome, OnErr};
 ghost use Rattle.hw_lanes.specs.declared.http.Request.{Request};
 ghost use Rattle.hh_http.specs.Asks.{Asks};
 ghost use Rattle.hh_http.specs.Lane.{at_start, room};
 ghost use Rattle.hw_door.specs.Traffic.{Answer};
+ghost use Rattle.hw_net.specs.declared.limits.TheConstants.{PIECE};
 ghost use Rattle.hw_net.specs.Halting.{HaltsHttp};
-ghost use Rattle.hw_net.specs.HttpState.{HearsHttp, ReadsInto, Finds, room_of, requests_of, is_awake, IsHttpState};
+ghost use Rattle.hw_net.specs.HttpState.{HearsHttp, ReadsInto, Finds, room_of, requests_of, is_awake, IsCalm, IsHttpState};
 ghost use Rattle.hw_net.specs.Lane.{says_continue};
-ghost use Rattle.hw_net.specs.Trace.{Tells};
+ghost use Rattle.hw_net.specs.Trace.{Reads, Tells};
+ghost use Rattle.hw_net.specs.Turn.{IsRightInput};
 
 use crate::input::{Input, is_nothing};
 use crate::limits::PIECE;
+use crate::protocol::Protocol;
 use crate::reading::read_piece;
 use hh_http::{HttpError, HttpLane};
 use hw_door::Wires;
@@ -139,6 +142,37 @@ impl HttpState {
         };
         self.take(&piece[..count], count == room);
         true
+    }
+
+    /// Hears the request that is held after a read that gave this: so many bytes, in front of the buffer, or `None` if the wire broke.
+    pub fn hear_after(&mut self, read: Option<usize>, buf: &[u8]) -> Result<Input, AllocError>
+        requires buffer { length buf.now ≡ PIECE }
+        requires count { IfSome read (λ count. count ≤ PIECE) }
+        ensures heard { IfOk result (λ input. (wire : ℕ) (answer : Answer) → IsCalm self.old → Reads wire PIECE answer (option_map (λ count. take count buf.now) read)
+            → HearsHttp wire self.old self.new (answer ∷ []) input) }
+        ensures halts { OnErr result ((wire : ℕ) (answer : Answer) → IsCalm self.old → Reads wire PIECE answer (option_map (λ count. take count buf.now) read)
+            → HaltsHttp wire self.old self.new (answer ∷ [])) }
+        ensures right { IfOk result (IsRightInput (Protocol.Http self.new)) }
+    {
+        let Some(count) = read else {
+            return Ok(Input::Broken);
+        };
+        // A calm lane has room for all of it.
+        let room = self.room();
+        let taken = count.min(room);
+        self.take(&buf[..taken], taken == room);
+        self.look()
+    }
+
+    /// Whether this is known: nothing is to be heard before more bytes come, and there is room for all that one read may give.
+    pub fn is_idle(&self) -> bool
+        ensures { result ≡ true → IsCalm self.now }
+    {
+        self.is_sound();
+        if self.is_awake() || self.awaits_continue {
+            return false;
+        }
+        self.room() == PIECE
     }
 
     /// Takes bytes that were read, all that there was room for if it `is_full`.

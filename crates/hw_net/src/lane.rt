@@ -6,7 +6,7 @@ ghost use Rattle.hh_http.specs.Texts.{continue_text, reply_text};
 ghost use Rattle.hw_door.specs.Traffic.{Answer, was_shut};
 ghost use Rattle.hw_net.specs.Bounds.{is_unwritten};
 ghost use Rattle.hw_net.specs.Door.{new_lane};
-ghost use Rattle.hw_net.specs.FirstReads.{ReadsFirst, IsCalmLane, IsWithin};
+ghost use Rattle.hw_net.specs.FirstReads.{ReadsFirst, IsCalmLane, IsCalmProtocol, IsWithin};
 ghost use Rattle.hw_net.specs.Halting.{Halts, HaltsIn, IsDue, IsLasting};
 ghost use Rattle.hw_net.specs.Lane.{waits, frames_of, is_over, is_awake, is_awake_by, is_drained, is_stalled, is_full, is_overdue, owes, refusal_of, full_after_write, after_end, after_hearing, after_message, after_reply, after_turn, protocol_after_shut, protocol_after_reply, protocol_after_upgrade, dialed_lane, new_socket, rest_of};
 ghost use Rattle.hw_net.specs.Saying.{Writes, WritesOut, WritesIfLive, DropsOrWrites, Says, SaysIfEnded, SaysMore, GathersOrSays, SpeaksAs, IsLaneStill, must_end, has_closed_long};
@@ -281,31 +281,35 @@ impl NetLane {
         }
     }
 
-    /// Whether this is known, as it is of most WebSockets: nothing is to be heard or written before more bytes come.
+    /// Whether this is known, as it is of most lanes of a server: nothing is to be heard or written before more bytes come, and not only that
+    /// the lane is overdue.
     fn is_idle(&self) -> bool
         ensures { result ≡ true → IsCalmLane self.now }
     {
+        self.stage == Stage::Live && self.out.is_empty() && self.full.is_none() && self.has_calm()
+    }
+
+    /// Whether this is known of what the lane speaks.
+    fn has_calm(&self) -> bool
+        ensures { result ≡ true → IsCalmProtocol self.now.protocol }
+    {
         match &self.protocol {
-            Protocol::Http(_) => false,
+            Protocol::Http(http_state) => http_state.is_idle(),
             Protocol::Response(_) => false,
-            Protocol::Socket(websocket_state) => {
-                self.stage == Stage::Live
-                    && self.out.is_empty()
-                    && self.full.is_none()
-                    && websocket_state.is_idle()
-            }
+            Protocol::Socket(websocket_state) => websocket_state.is_idle(),
         }
     }
 
-    /// Reads the wire, if nothing else is known to be done before more bytes come.
-    pub fn read_first<W: Wires>(&self, wires: &mut W, buf: &mut [u8]) -> FirstRead
+    /// Reads the wire, if nothing else is known to be done before more bytes come, and the lane isn't overdue.
+    pub fn read_first<W: Wires>(&self, wires: &mut W, buf: &mut [u8], now: u64) -> FirstRead
         requires { length buf.old ≡ PIECE }
+        ensures in_time { result ≡ FirstRead.NothingRead → is_overdue now self.now ≡ false }
         ensures reads_first { (answers : List Answer) × Tells (W.trace wires.old) (W.trace wires.new) answers
             × ReadsFirst self.now answers buf.new result }
         ensures count { IsWithin result }
         ensures wires { W.wires wires.new ≡ W.wires wires.old }
     {
-        if !self.is_idle() {
+        if !self.is_idle() || self.is_overdue(now) {
             return FirstRead::Unread;
         }
         match read_piece(wires, self.wire, buf) {
@@ -482,10 +486,11 @@ impl NetLane {
         ensures right { IfOk result (IsRightInput self.new.protocol) }
         ensures others_unchanged { self.new ≡ record self.old { protocol = self.new.protocol } }
     {
-        let Protocol::Socket(websocket_state) = &mut self.protocol else {
-            return Ok(Input::Nothing);
-        };
-        websocket_state.hear_after(read, buf)
+        match &mut self.protocol {
+            Protocol::Http(http_state) => http_state.hear_after(read, buf),
+            Protocol::Response(_) => Ok(Input::Nothing),
+            Protocol::Socket(websocket_state) => websocket_state.hear_after(read, buf),
+        }
     }
 
     /// What is heard in the end: a lane whose wire was shut meanwhile is lost, if nothing else is heard of it.

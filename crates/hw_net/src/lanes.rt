@@ -10,7 +10,7 @@ ghost use Rattle.hw_net.specs.Door.{RestsAt, kept, index_of_first};
 ghost use Rattle.hw_net.specs.FirstReads.{ReadsFirstAt, IsWithin};
 ghost use Rattle.hw_net.specs.Flushing.{Flushes, HasWriter, WriteEach};
 ghost use Rattle.hw_net.specs.Halting.{Halts};
-ghost use Rattle.hw_net.specs.Lane.{Lane, is_awake, is_full, wires_of};
+ghost use Rattle.hw_net.specs.Lane.{Lane, is_awake, is_full, is_overdue, wires_of};
 ghost use Rattle.hw_net.specs.Lanes.{DoesHere};
 ghost use Rattle.hw_net.specs.Rising.{Rise};
 ghost use Rattle.hw_net.specs.Saying.{SaysIfEnded, WritesIfLive};
@@ -167,16 +167,23 @@ impl Lanes {
         index_of_first(&self.items, from)
     }
 
-    /// Reads the wire of the lane of this place, if nothing else is known to be done there before more bytes come.
-    pub fn read_first<W: Wires>(&self, index: usize, wires: &mut W, buf: &mut [u8]) -> FirstRead
+    /// Reads the wire of the lane of this place, if nothing else is known to be done there before more bytes come, and the lane isn't overdue.
+    pub fn read_first<W: Wires>(
+        &self,
+        index: usize,
+        wires: &mut W,
+        buf: &mut [u8],
+        now: u64,
+    ) -> FirstRead
         requires buffer { length buf.old ≡ PIECE }
         requires index { index < length self.now.items }
+        ensures in_time { result ≡ FirstRead.NothingRead → (lane : Lane) → is_overdue now (slice_index_or self.now.items index lane) ≡ false }
         ensures reads_first { (answers : List Answer) × Tells (W.trace wires.old) (W.trace wires.new) answers
             × ReadsFirstAt index self.now.items answers buf.new result }
         ensures count { IsWithin result }
         ensures wires { W.wires wires.new ≡ W.wires wires.old }
     {
-        self.items[index].read_first(wires, buf)
+        self.items[index].read_first(wires, buf, now)
     }
 
     pub fn turn<W: Wires>(

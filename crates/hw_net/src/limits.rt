@@ -30,5 +30,5 @@ pub const MOST_CLOSING: u64 = 30_000;
 /// The status of the reply that makes a lane a WebSocket (RFC 9110, section 15.2.2).
 pub const SWITCHING: u16 = 101;
 
-/// How many calls of `next`, one after the other, may begin with a wire that was named, before one begins with the lane whose turn it is.
+/// How many calls of `next` that hear something, one after the other, may begin with a wire that was named, before one begins with the lane whose turn it is.
 pub const MOST_NAMED: u64 = 64;

@@ -30,8 +30,8 @@ use std::marker::Model;
 ///
 /// Each search gives the lanes their turns until one hears something, from the one on whose turn it is: the first after the one that was
 /// heard last so. If the wires name one that is ready, the turns begin there, though at most [`MOST_NAMED`] times in a row, so that each
-/// lane listens, whatever they name ([`lanes_are_reached`](crate::lanes_are_reached)). Lanes that rest aren't asked while the wires tell that
-/// none of them has anything to give.
+/// lane listens, whatever they name ([`lanes_are_reached`](crate::lanes_are_reached)). A search that hears nothing begins that count anew, as each
+/// lane listened in it or rests. Lanes that rest aren't asked while the wires tell that none of them has anything to give.
 #[derive(Drop)]
 pub struct Reactor<W: Wires + Drop> {
     alloc: Global,
@@ -39,7 +39,7 @@ pub struct Reactor<W: Wires + Drop> {
     lanes: Lanes,
     // The lanes from this number on come first in the next search that begins with none that was named.
     from: u64,
-    // How many searches in a row began with a lane that was named.
+    // How many searches in a row began with a lane that was named, since one heard nothing.
     named: u64,
     // The wire that was heard last, or, if nothing was, the one with which a search began that was named. 0 before both.
     last_wire: u64,
@@ -273,6 +273,7 @@ impl<W: Wires + Drop> Reactor<W> {
     {
         let begin = self.begin();
         let Some(event) = self.turn_from(begin, now)? else {
+            self.named = 0;
             self.lanes.renew_due(now);
             return Ok(Event::Quiet);
         };

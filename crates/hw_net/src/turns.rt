@@ -58,7 +58,7 @@ fn turn_until<W: Wires>(
         if all_rest(lanes, wires, now) {
             return Ok(Course::Rests);
         }
-        let first_look = lanes.read_first(index, wires, buf);
+        let first_look = lanes.read_first(index, wires, buf, now);
         if first_look == FirstRead::NothingRead {
             continue;
         }

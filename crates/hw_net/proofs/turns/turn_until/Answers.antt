@@ -1,4 +1,5 @@
-use Rattle.std.proofs.Common.{rules, arith, ◌≡◌, ◌<◌, None, Some, length}
+use Rattle.std.proofs.Common.{rules, arith, ◌≡◌, ◌<◌, ◌∙◌, ap, sym, None, Some, length}
+use Rattle.hw_net.specs.Lane.{Lane, is_overdue}
 use Rattle.hw_net.specs.Walks.{Walks}
 use Rattle.hw_net.proofs.Calm.{calm-listens}
 use Rattle.hw_net.proofs.Searching.{ends-rests, still-told, told-all, told-none}
@@ -52,7 +53,8 @@ loop-index-preserved-then-eq g c =
     (trace c.all_rest.new.wires) c.loop-index.invariant.0 asked in (
       walks-still (trace c.args.wires.now) (trace c.all_rest.new.wires) (trace c.read_first-first_look.new.wires) c.args.now c.args.begin c.loop-index.index
           c.args.lanes.now.items c.loop-index.lanes.items c.read_first-first_look.new.buf c.read_first-first_look.result c.loop-index.invariant.1 within inside
-          (λ lane first reads_first. calm-listens c.args.now lane first c.read_first-first_look.new.buf reads_first) (search rules) walked c.read_first-first_look.ensures.reads_first,
+          (λ lane first at reads_first. calm-listens c.args.now lane first c.read_first-first_look.new.buf
+          (sym (ap (λ (l : Lane). is_overdue c.args.now l) at) ∙ c.read_first-first_look.ensures.in_time (search rules) lane) reads_first) (search rules) walked c.read_first-first_look.ensures.reads_first,
       search rules,
       search rules,
       search rules,
