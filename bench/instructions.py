@@ -1,14 +1,17 @@
 #!/usr/bin/env python3
 """Counts the instructions that `sr serve` takes for one call of Echo, by callgrind, which other work on the machine doesn't disturb. It is no test.
 
-    bench/instructions.py [--connections K] [--idle I] [--calls FROM TO] [--crates N] PROGRAM
+    bench/instructions.py [--connections K] [--idle I] [--amid KIND COUNT] [--calls FROM TO] [--crates N] PROGRAM
 
 Two runs of the server, each under the load of bench/serve/load.c until so many calls are answered: K connections, each with one Echo of 100 bytes in
-flight, beside I idle ones. The difference of the two is divided by that of the calls, so the start and the handshakes drop out. Told are the
-instructions of a call, and those of each crate, the dearest first, if the program has its names: a release is stripped. A server under
-callgrind is slow, so its share of turns in which nothing is heard differs from run to run, by some percent of the whole."""
+flight, beside I idle ones. The difference of the two is divided by that of the calls, so the start and the handshakes drop out. With --amid so many
+connections wait meanwhile: idle ones (idle), held polls (polls), or ones on which nothing was said (silent). Nothing is counted until they do; the
+runs are to end before their pings, 15 seconds later. Told are the instructions of a call, and those of each crate, the dearest first, if the program
+has its names: a release is stripped. A server under callgrind is slow, so its share of turns in which nothing is heard differs from run to run, by
+some percent of the whole."""
 import argparse
 import collections
+import contextlib
 import os
 import pathlib
 import re
@@ -47,14 +50,34 @@ def costs(profile):
     return own
 
 
+@contextlib.contextmanager
+def waiting(folder, port, server, amid):
+    """Connections that wait, until the end of it, if that is asked for. From then on instructions are counted."""
+    if not amid:
+        yield
+        return
+    kind, count = amid
+    words = [built(folder, "load"), str(port), "hold", count, "600"] if kind == "idle" else [built(folder, "hold"), str(port), kind, count]
+    holder = subprocess.Popen(words, stdout=subprocess.PIPE, stderr=subprocess.DEVNULL, text=True)
+    try:
+        if "opened" not in holder.stdout.readline():
+            raise SystemExit(f"{words} doesn't hold its connections")
+        subprocess.run(["callgrind_control", "-i", "on", str(server.pid)], stdout=subprocess.DEVNULL, stderr=subprocess.DEVNULL, check=True)
+        yield
+    finally:
+        holder.kill()
+        holder.wait()
+
+
 def run(program, load, calls, asked, folder):
     """The profile of a server that answers so many calls."""
     profile, port = os.path.join(folder, str(calls)), free_port()
-    words = ["valgrind", "--tool=callgrind", f"--callgrind-out-file={profile}", program, "serve", "--port", str(port)]
-    server = subprocess.Popen(words, stdout=subprocess.PIPE, stderr=subprocess.DEVNULL, text=True)
+    words = ["valgrind", "--tool=callgrind", f"--instr-atstart={'no' if asked.amid else 'yes'}", f"--callgrind-out-file={profile}"]
+    server = subprocess.Popen([*words, program, "serve", "--port", str(port)], stdout=subprocess.PIPE, stderr=subprocess.DEVNULL, text=True)
     if not server.stdout.readline().startswith("serving"):
         raise SystemExit(f"{program} doesn't serve")
-    subprocess.run([load, str(port), "echoes", str(asked.connections), str(calls), str(asked.idle)], stdout=subprocess.DEVNULL, check=True)
+    with waiting(folder, port, server, asked.amid):
+        subprocess.run([load, str(port), "echoes", str(asked.connections), str(calls), str(asked.idle)], stdout=subprocess.DEVNULL, check=True)
     server.terminate()
     server.wait()
     return costs(profile)
@@ -84,12 +107,14 @@ def main():
     parser = argparse.ArgumentParser(description=__doc__, formatter_class=argparse.RawDescriptionHelpFormatter)
     parser.add_argument("--connections", type=int, default=50)
     parser.add_argument("--idle", type=int, default=0)
+    parser.add_argument("--amid", nargs=2, metavar=("KIND", "COUNT"), help="idle, polls or silent, and how many")
     parser.add_argument("--calls", type=int, nargs=2, default=(2_000, 12_000))
     parser.add_argument("--crates", type=int, default=12)
     parser.add_argument("program")
     asked = parser.parse_args()
     by_crate = counted(asked.program, asked)
-    print(f"instructions of an echo, {asked.connections} connections: {sum(by_crate.values()):,.0f}")
+    amid = f" amid {asked.amid[1]} {asked.amid[0]}" if asked.amid else ""
+    print(f"instructions of an echo, {asked.connections} connections{amid}: {sum(by_crate.values()):,.0f}")
     for crate, number in by_crate.most_common(asked.crates):
         print(f"    {crate:<20}{number:>10,.0f}")
     return 0

@@ -99,7 +99,7 @@ def echo(bench):
 
 def echo_instructions(bench):
     for connections, calls in ((50, (2_000, 12_000)), (bench.scaled(1_000), (3_000, 13_000))):
-        asked = argparse.Namespace(connections=connections, idle=0, calls=calls)
+        asked = argparse.Namespace(connections=connections, idle=0, amid=None, calls=calls)
         cost = sum(instructions.counted(bench.asked.program, asked).values())
         row(f"instructions of an echo, {connections:,} connections", cost, "", None, cost, 20_000, is_most=True)
 
