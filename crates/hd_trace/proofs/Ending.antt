@@ -13,7 +13,7 @@ use Rattle.hd_delivery.specs.HistoryLaws.{WorldsAreHistories, FactsHold}
 use Rattle.hd_delivery.specs.Laws.{whole_frames, FedIsWhole}
 use Rattle.hd_delivery.specs.AloneLaws.{FedIsLent}
 use Rattle.hd_delivery.specs.Sides.{other, history}
-use Rattle.hd_trace.specs.Traces.{Setup, frames_at}
+use Rattle.hd_trace.specs.Traces.{Setup, frames_beside}
 use Rattle.hd_trace.specs.ByNumbers.{released, said_there, IsFaithfulWorld, IsStillAt}
 use Rattle.hd_trace.proofs.Taking.{fed_there}
 
@@ -65,7 +65,7 @@ few_whole spell (f ∷ fs) n = go (nat_le (length (spell f)) n) (few_whole spell
 
 -- an end takes no more frames than it was fed
 few_taken : WorldsAreHistories → FactsHold → (x : Setup) (side : Side) (w : List (Event ByteStep)) (l : ℕ) → IsFaithfulWorld x w
-    → taken_count l (frames_at x side w) ≤ length (fed_frames l (frames_at x side w))
+    → taken_count l (frames_beside x side w) ≤ length (fed_frames l (frames_beside x side w))
 few_taken worlds facts x Client w l f =
     (facts x.limits x.wire (config Client x.terms) (client_of w) (worlds (alike x.limits) x.wire x.terms w f.is_world).0).taken_were_fed l
 few_taken worlds facts x Server w l f =
@@ -75,9 +75,9 @@ all_fed : FedIsLent → (x : Setup) (side : Side) (w : List (Event ByteStep)) (l
 all_fed lent x side w l f s = whole (bytes_on l (history side w)) (said_there x side w l) (lent (alike x.limits) x.wire x.terms w side l f.is_world) s.fed
 
 all_taken : FedIsWhole → WorldsAreHistories → FactsHold → (x : Setup) (side : Side) (w : List (Event ByteStep)) (l : ℕ) → IsFaithfulWorld x w → IsStillAt x side w l
-    → taken_count l (frames_at x side w) ≡ length (fed_frames l (frames_at x side w))
+    → taken_count l (frames_beside x side w) ≡ length (fed_frames l (frames_beside x side w))
 all_taken is_whole worlds facts x side w l f s =
-    let few = few_whole (x.wire.spell x.terms.codec) (lent_frames l (frames_at x (other side) w)) (length (bytes_on l (history side w))) in
+    let few = few_whole (x.wire.spell x.terms.codec) (lent_frames l (frames_beside x (other side) w)) (length (bytes_on l (history side w))) in
     let same = ap length (fed_there is_whole x side w l f s.here) in
     let low = few_taken worlds facts x side w l f in
     let all = s.took in
@@ -97,14 +97,14 @@ still is_whole holds worlds facts lent x w f = (forth, back)
             here = q.client_here;
             ready = q.client_ready;
             fed = ap length q.client_fed;
-            took = q.client_taken ∙ subst (λ l. length (fed_frames l (frames_at x Client w)) ≡ length (lent_frames l (frames_at x Server w))) same (ap length g.client_fed);
+            took = q.client_taken ∙ subst (λ l. length (fed_frames l (frames_beside x Client w)) ≡ length (lent_frames l (frames_beside x Server w))) same (ap length g.client_fed);
             owes_nothing = q.client_due;
           },
           record {
             here = q.server_here;
             ready = q.server_ready;
             fed = ap length q.server_fed;
-            took = q.server_taken ∙ subst (λ l. length (fed_frames l (frames_at x Server w)) ≡ length (lent_frames l (frames_at x Client w))) same (ap length g.server_fed);
+            took = q.server_taken ∙ subst (λ l. length (fed_frames l (frames_beside x Server w)) ≡ length (lent_frames l (frames_beside x Client w))) same (ap length g.server_fed);
             owes_nothing = q.server_due;
           },
         )

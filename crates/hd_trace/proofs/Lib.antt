@@ -8,7 +8,10 @@ pub mod Growing
 pub mod Dues
 pub mod Giving
 pub mod Owing
+pub mod Outcomes
+pub mod Attaching
 pub mod Feeding
+pub mod Unread
 pub mod Taking
 pub mod Ending
 pub mod Beside

@@ -14,7 +14,7 @@ use Rattle.hd_delivery.specs.Worlds.{config, Event, alike}
 use Rattle.hd_delivery.specs.Bytes.{ByteStep, bytes_on}
 use Rattle.hd_delivery.specs.Laws.{whole_frames, FedIsWhole}
 use Rattle.hd_delivery.specs.Sides.{other, history}
-use Rattle.hd_trace.specs.Traces.{Setup, frames_at}
+use Rattle.hd_trace.specs.Traces.{Setup, frames_beside}
 use Rattle.hd_trace.specs.Marks.{marks_of}
 use Rattle.hd_trace.specs.ByMarks.{next_number_by, given_by, got_of}
 use Rattle.hd_trace.specs.MarkLaws.{TakesAreMarked}
@@ -69,8 +69,8 @@ whole_at spell (f ∷ fs) (suc i) n = ⊎_elim
     none a more = ⊎_elim (λ h. absurd (let low = h.1 in omega arith)) (λ h. h.0) (leb_tells a n)
 
 -- what an end was fed in frames there are those that the other end said whose bytes were all fed
-pub fed_there : FedIsWhole → (x : Setup) (side : Side) (w : List (Event ByteStep)) (l : ℕ) → IsFaithfulWorld x w → present_link (frames_at x side w) ≡ Some l
-    → fed_frames l (frames_at x side w) ≡ whole_frames (x.wire.spell x.terms.codec) (lent_frames l (frames_at x (other side) w)) (length (bytes_on l (history side w)))
+pub fed_there : FedIsWhole → (x : Setup) (side : Side) (w : List (Event ByteStep)) (l : ℕ) → IsFaithfulWorld x w → present_link (frames_beside x side w) ≡ Some l
+    → fed_frames l (frames_beside x side w) ≡ whole_frames (x.wire.spell x.terms.codec) (lent_frames l (frames_beside x (other side) w)) (length (bytes_on l (history side w)))
 fed_there whole x Client w l f at = (whole (alike x.limits) x.wire x.terms w f.faithful f.is_world).0 l at
 fed_there whole x Server w l f at = (whole (alike x.limits) x.wire x.terms w f.faithful f.is_world).1 l at
 
@@ -91,17 +91,17 @@ module _ (marked : TakesAreMarked) (c : Config) (k : List EndEvent) (l : ℕ) (g
   back (Some f) e = ap Some (took_only (reads c k (next_number c k l) f) got (gives f ∙ e))
 
 pub by_lines : FedIsWhole → TakesAreMarked → (x : Setup) (side : Side) (w : List (Event ByteStep)) (l : ℕ) (got : Got) → IsFaithfulWorld x w → IsOpenOn x side w l
-    → (processes (config side x.terms) (frames_at x side w) ≡ Some (Took got))
-    ↔ (taken_by (config side x.terms) (marks_of (config side x.terms) (frames_at x side w)) l (next_there x side w l) ≡ Some got)
+    → (processes (config side x.terms) (frames_beside x side w) ≡ Some (Took got))
+    ↔ (taken_by (config side x.terms) (marks_of (config side x.terms) (frames_beside x side w)) l (next_there x side w l) ≡ Some got)
 by_lines whole marked x side w l got f on = (
-  λ e. forth marked (config side x.terms) (frames_at x side w) l got on.here (next_there x side w l) (sym is ∙ e),
-  λ e. is ∙ back marked (config side x.terms) (frames_at x side w) l got on.here (next_there x side w l) e,
+  λ e. forth marked (config side x.terms) (frames_beside x side w) l got on.here (next_there x side w l) (sym is ∙ e),
+  λ e. is ∙ back marked (config side x.terms) (frames_beside x side w) l got on.here (next_there x side w l) e,
 )
   where
-    is : processes (config side x.terms) (frames_at x side w)
-        ≡ option_map (reads (config side x.terms) (frames_at x side w) (next_number (config side x.terms) (frames_at x side w) l)) (next_there x side w l)
-    is = ap (λ b. if b then None else next_frame (config side x.terms) (frames_at x side w) (present_link (frames_at x side w))) on.unclosed
-        ∙ (ap (next_frame (config side x.terms) (frames_at x side w)) on.here
-        ∙ ap (option_map (reads (config side x.terms) (frames_at x side w) (next_number (config side x.terms) (frames_at x side w) l)))
-        (ap (λ fs. slice_get fs (taken_count l (frames_at x side w))) (fed_there whole x side w l f on.here)
-        ∙ whole_at (x.wire.spell x.terms.codec) (lent_frames l (frames_at x (other side) w)) (taken_count l (frames_at x side w)) (length (bytes_on l (history side w)))))
+    is : processes (config side x.terms) (frames_beside x side w)
+        ≡ option_map (reads (config side x.terms) (frames_beside x side w) (next_number (config side x.terms) (frames_beside x side w) l)) (next_there x side w l)
+    is = ap (λ b. if b then None else next_frame (config side x.terms) (frames_beside x side w) (present_link (frames_beside x side w))) on.unclosed
+        ∙ (ap (next_frame (config side x.terms) (frames_beside x side w)) on.here
+        ∙ ap (option_map (reads (config side x.terms) (frames_beside x side w) (next_number (config side x.terms) (frames_beside x side w) l)))
+        (ap (λ fs. slice_get fs (taken_count l (frames_beside x side w))) (fed_there whole x side w l f on.here)
+        ∙ whole_at (x.wire.spell x.terms.codec) (lent_frames l (frames_beside x (other side) w)) (taken_count l (frames_beside x side w)) (length (bytes_on l (history side w)))))

@@ -13,7 +13,7 @@ use Rattle.hd_trace.specs.declared.trace.ToldStep.TheVariants.{Attach, Detach, F
 use Rattle.hd_trace.specs.declared.trace.TraceLine.{TraceLine}
 use Rattle.hd_trace.specs.declared.trace.Rule.{Rule}
 use Rattle.hd_trace.specs.declared.trace.Rule.TheVariants as rule
-use Rattle.hd_trace.specs.Traces.{Setup, clock, steps_of, frames_at, MayBeside, TellWorld}
+use Rattle.hd_trace.specs.Traces.{Setup, clock, steps_of, frames_beside, MayBeside, TellWorld}
 use Rattle.hd_trace.specs.Alone.{frames_alone, MayAlone, TellHistory}
 
 -- ---- one line
@@ -55,7 +55,7 @@ IsBrokenBy x May c k now step r = Breaks r x May c k now step × ((q : Rule) →
 -- after these lines, which told a world, the line breaks it off by the rule
 abbrev pub BreaksWorld : Setup → List TraceLine → TraceLine → List (Event ByteStep) → Rule → Type 0
 BreaksWorld x before line w r =
-    IsBrokenBy x (MayBeside x line.side w) (config line.side x.terms) (frames_at x line.side w) (clock (steps_of before)) line.step r
+    IsBrokenBy x (MayBeside x line.side w) (config line.side x.terms) (frames_beside x line.side w) (clock (steps_of before)) line.step r
 
 -- after these lines of one end, which told a history, the line breaks it off
 abbrev pub BreaksHistory : Setup → Side → List ToldStep → ToldStep → List ByteStep → Rule → Type 0

@@ -1,5 +1,5 @@
--- What the marks of an end say of its next step: its state, silences, what is due, and what a frame gives.
-use Rattle.std.specs.Prelude.{ℕ, suc, ◌+◌, max, Bool, not, ◌&&◌, ◌||◌, ◌==◌, nat_lt, nat_le, List, Option, Some, None, is_some, option_map, slice_get, if◌then◌else◌}
+-- What the marks of an end say of its next step: its state, silences, whether it may begin a link, what is due, and what a frame gives.
+use Rattle.std.specs.Prelude.{◌≡◌, ◌⊎◌, ◌≤◌, ℕ, suc, ◌+◌, max, Bool, true, false, not, ◌&&◌, ◌||◌, ◌==◌, nat_lt, nat_le, List, Option, Some, None, is_some, option_map, slice_get, if◌then◌else◌}
 use Rattle.hm_message.specs.declared.message.Message.{Message}
 use Rattle.hd_delivery.specs.declared.vocabulary.Got.{Got}
 use Rattle.hd_delivery.specs.declared.vocabulary.Got.TheVariants as gives
@@ -22,6 +22,12 @@ is_silence_by now m = (is_some m.link && not m.closed) && is_late now m.heard
 
 abbrev pub state_by : Marks → State
 state_by m = state_of m.closed m.shaken m.link
+
+-- the end may begin a link at this moment: it isn't closed, and it never had one or its connection outlives them
+pub record MayBeginBy (now : ℕ) (m : Marks) : Type 0 where
+  pub unclosed : m.closed ≡ false
+  pub granted : (m.first ≡ None) ⊎ (m.resumable ≡ true)
+  pub in_time : m.moment ≤ now
 
 -- ---- what is due
 

@@ -17,7 +17,7 @@ use Rattle.hd_trace.specs.declared.trace.ToldStep.TheVariants.{Attach, Feed, Len
 use Rattle.hd_trace.specs.declared.trace.TraceLine.{TraceLine}
 use Rattle.hd_trace.specs.declared.trace.Rule.{Rule}
 use Rattle.hd_trace.specs.declared.marks.Marks.{Marks}
-use Rattle.hd_trace.specs.Traces.{Setup, clock, steps_of, frames_at, MakesAt, TellWorld}
+use Rattle.hd_trace.specs.Traces.{Setup, clock, steps_of, frames_beside, MakesAt, TellWorld}
 use Rattle.hd_trace.specs.Alone.{MakesAlone}
 use Rattle.hd_trace.specs.Breaking.{BreaksWorld, BreaksHistory, BreaksOff}
 use Rattle.hd_trace.specs.Recording.{line_of, lines_of, lines_alone}
@@ -127,4 +127,4 @@ server_on_five = Does (Attached 5 0) ∷ Bytes (1 ∷ 2 ∷ 0 ∷ 0 ∷ []) ∷ 
 
 -- the marks of a side of a world
 abbrev pub marks_at : Side → List (Event ByteStep) → Marks
-marks_at side events = marks_of (config side (terms 2 true)) (frames_at setup side (reverse events))
+marks_at side events = marks_of (config side (terms 2 true)) (frames_beside setup side (reverse events))

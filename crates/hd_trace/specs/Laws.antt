@@ -10,7 +10,7 @@ use Rattle.hd_delivery.specs.Sides.{history}
 use Rattle.hd_trace.specs.declared.trace.ToldStep.{ToldStep}
 use Rattle.hd_trace.specs.declared.trace.TraceLine.{TraceLine}
 use Rattle.hd_trace.specs.declared.trace.Rule.{Rule}
-use Rattle.hd_trace.specs.Traces.{Setup, clock, steps_of, frames_at, IsFaithfulTo, MayBeside, TellWorld}
+use Rattle.hd_trace.specs.Traces.{Setup, clock, steps_of, frames_beside, IsFaithfulTo, MayBeside, TellWorld}
 use Rattle.hd_trace.specs.Alone.{frames_alone, IsNamedAlone, MayAlone, TellHistory}
 use Rattle.hd_trace.specs.Breaking.{BreaksWorld, BreaksHistory, BreaksOffBy}
 use Rattle.hd_trace.specs.Recording.{lines_of, AllCanBeTold, lines_alone, AllCanBeToldAlone}
@@ -47,8 +47,8 @@ pub record IsToldWorld (x : Setup) (now : ℕ) (w : List (Event ByteStep)) : Typ
   pub is_world : IsWorldOverBytes (alike x.limits) x.wire x.terms w
   pub on_one_clock : IsOnOneClock (bare_events w)
   pub clock_is : latest (bare_events w) ≡ now
-  pub in_time : (side : Side) → moment (frames_at x side w) ≤ now
-  pub faultless : (side : Side) → HasNoFault (frames_at x side w)
+  pub in_time : (side : Side) → moment (frames_beside x side w) ≤ now
+  pub faultless : (side : Side) → HasNoFault (frames_beside x side w)
 
 -- so is what lines tell, and its clock stands at the last tick
 abbrev pub ToldIsWorld : Type 0

@@ -3,6 +3,7 @@ pub mod Alone
 pub mod Breaking
 pub mod Recording
 pub mod Laws
+pub mod Verdicts
 pub mod Marks
 pub mod ByMarks
 pub mod MarkLaws

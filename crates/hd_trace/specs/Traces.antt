@@ -8,8 +8,8 @@ use Rattle.hd_delivery.specs.declared.vocabulary.Side.TheVariants.{Client, Serve
 use Rattle.hd_delivery.specs.Frames.{LinkFrame}
 use Rattle.hd_delivery.specs.Histories.{EndEvent, Attached, Detached, Took, Sent, Lent, Ticked, Silenced, Closed, Config, codec_of, sent_messages, processed_messages}
 use Rattle.hd_delivery.specs.Worlds.{Limits, Terms, config, Event}
-use Rattle.hd_delivery.specs.Bytes.{Wire, ByteStep, Bytes, Does, in_frames, IsFaithful, AllowedOverBytes}
-use Rattle.hd_delivery.specs.Sides.{other, by, history}
+use Rattle.hd_delivery.specs.Bytes.{Wire, ByteStep, Bytes, Does, IsFaithful, AllowedOverBytes}
+use Rattle.hd_delivery.specs.Sides.{other, by, history, frames_at}
 use Rattle.hd_trace.specs.declared.trace.ToldStep.{ToldStep}
 use Rattle.hd_trace.specs.declared.trace.ToldStep.TheVariants.{Attach, Detach, Feed, Lend, Send, Take, Tick, Close}
 use Rattle.hd_trace.specs.declared.trace.TraceLine.{TraceLine}
@@ -63,12 +63,12 @@ pub record Makes (x : Setup) (May : ByteStep → Type 0) (c : Config) (k : List 
 -- ---- two ends
 
 -- the history of a side in frames
-abbrev pub frames_at : Setup → Side → List (Event ByteStep) → List EndEvent
-frames_at x side w = in_frames x.wire (config side x.terms) (history side w)
+abbrev pub frames_beside : Setup → Side → List (Event ByteStep) → List EndEvent
+frames_beside x side w = frames_at x.wire x.terms w side
 
 -- what is said in the world is read as itself
 abbrev pub IsFaithfulTo : Setup → List (Event ByteStep) → Type 0
-IsFaithfulTo x w = IsFaithful x.limits x.wire x.terms.codec x.terms.version (sent_messages (frames_at x Client w) ++ sent_messages (frames_at x Server w))
+IsFaithfulTo x w = IsFaithful x.limits x.wire x.terms.codec x.terms.version (sent_messages (frames_beside x Client w) ++ sent_messages (frames_beside x Server w))
 
 -- the step may come next at this side of a world
 abbrev pub MayBeside : Setup → Side → List (Event ByteStep) → ByteStep → Type 0
@@ -76,7 +76,7 @@ MayBeside x side w s = AllowedOverBytes x.limits x.wire (config side x.terms) (c
 
 -- the line tells this step of this side, which may come next
 abbrev pub MakesAt : Setup → Side → List (Event ByteStep) → ℕ → ToldStep → ByteStep → Type 0
-MakesAt x side w now step s = Makes x (MayBeside x side w) (config side x.terms) (frames_at x side w) now step s
+MakesAt x side w now step s = Makes x (MayBeside x side w) (config side x.terms) (frames_beside x side w) now step s
 
 -- the lines tell this world
 abbrev pub TellWorld : Setup → List TraceLine → List (Event ByteStep) → Type 0

@@ -1,12 +1,28 @@
 //! The rules of two ends by numbers, so that whoever judges a trace keeps no lists of steps. No function here does anything: its contract is the
 //! law.
 
-ghost use Rattle.hd_trace.specs.ByNumbers.{FeedsByNumbers, RoomByNumbers, StillByNumbers, TakesByLines};
+ghost use Rattle.hd_trace.specs.ByNumbers.{AttachesAloneByNumbers, AttachesByNumbers, FeedsByNumbers, RoomByNumbers, StillByNumbers, TakesByLines, UnreadByNumbers};
 
-use crate::laws::takes_are_marked;
+use crate::laws::{alone_agrees, takes_are_marked};
 use hd_delivery::{
-    delivery_over_bytes, facts_hold, fed_is_lent, fed_is_whole, unread_grows, worlds_are_histories,
+    delivery_over_bytes, facts_hold, fed_is_cut, fed_is_lent, fed_is_unseen, fed_is_whole,
+    histories_are_in_order, unread_grows, worlds_are_histories,
 };
+
+/// Which link an end may begin beside another: its marks let it begin one, and the link is new to it. A client's is above its last one, and a
+/// server's one of the client's on which it never stood.
+pub fn attaches_by_numbers()
+    ensures { AttachesByNumbers }
+{
+    alone_agrees();
+    attaches_alone_by_numbers();
+}
+
+/// Which link an end may begin that is judged alone: its marks let it begin one, and a client's is above its last one, a server's another than those
+/// on which it stood.
+pub fn attaches_alone_by_numbers()
+    ensures { AttachesAloneByNumbers }
+{}
 
 /// An end that isn't closed may be fed exactly what begins the bytes that the other end said there and that it wasn't fed yet, if no more than a
 /// frame and its framing are unread then; for readers that are sound.
@@ -16,6 +32,20 @@ pub fn feeds_by_numbers()
     worlds_are_histories();
     unread_grows();
     fed_is_lent();
+}
+
+/// How many bytes are unread on the link of an end: what it was fed there less what the frames have that it took, as the other end said them; for
+/// readers that are sound, and faithful to what was sent.
+pub fn unread_by_numbers()
+    ensures { UnreadByNumbers }
+{
+    facts_hold();
+    fed_is_cut();
+    fed_is_unseen();
+    fed_is_whole();
+    histories_are_in_order();
+    unread_grows();
+    worlds_are_histories();
 }
 
 /// An end that isn't closed takes exactly what the next frame that the other end said there gives, once all bytes of that were fed; for readers

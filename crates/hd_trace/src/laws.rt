@@ -1,6 +1,7 @@
 //! What holds of traces, of two ends and of one, and of marks. No function here does anything: its contract is the law.
 
 ghost use Rattle.hd_trace.specs.MarkLaws.{DueIsMarked, MarksFollow, TakesAreMarked};
+ghost use Rattle.hd_trace.specs.Verdicts.{VerdictAloneIsOne, VerdictIsOne};
 ghost use Rattle.hd_trace.specs.Laws.{AloneAgrees, LinesTellOneWorld, OneVerdict, OneVerdictAlone, RecordsTell, RecordsTellAlone, StepsTellOneHistory, ToldIsDelivered, ToldIsHistory, ToldIsRecorded, ToldIsRecordedAlone, ToldIsWorld};
 
 use hd_delivery::{delivery_over_bytes, frames_count, links_grow, unused_is_untouched};
@@ -28,6 +29,14 @@ pub fn one_verdict()
     ensures { OneVerdict }
 {}
 
+/// A trace has one verdict at most, with its numbers.
+pub fn verdict_is_one()
+    ensures { VerdictIsOne }
+{
+    one_verdict();
+    lines_tell_one_world();
+}
+
 /// What is recorded of a world tells this world, if a line can tell each of its steps.
 pub fn records_tell()
     ensures { RecordsTell }
@@ -52,6 +61,14 @@ pub fn told_is_history()
 pub fn one_verdict_alone()
     ensures { OneVerdictAlone }
 {}
+
+/// The lines of one end have one verdict at most, with its numbers.
+pub fn verdict_alone_is_one()
+    ensures { VerdictAloneIsOne }
+{
+    one_verdict_alone();
+    steps_tell_one_history();
+}
 
 /// What is recorded of one end tells its history, if a line can tell each of its steps.
 pub fn records_tell_alone()

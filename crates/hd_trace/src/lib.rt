@@ -36,16 +36,22 @@ mod marks;
 mod owed;
 mod said;
 mod trace;
+mod verdict;
 mod worked;
 
-pub use by_numbers::{feeds_by_numbers, room_by_numbers, still_by_numbers, takes_by_lines};
+pub use by_numbers::{
+    attaches_alone_by_numbers, attaches_by_numbers, feeds_by_numbers, room_by_numbers,
+    still_by_numbers, takes_by_lines, unread_by_numbers,
+};
 pub use given::Given;
 pub use laws::{
     alone_agrees, due_is_marked, lines_tell_one_world, marks_follow, one_verdict,
     one_verdict_alone, records_tell, records_tell_alone, steps_tell_one_history, takes_are_marked,
     told_is_delivered, told_is_history, told_is_recorded, told_is_recorded_alone, told_is_world,
+    verdict_alone_is_one, verdict_is_one,
 };
 pub use marks::{Farewell, Marks};
 pub use owed::Owed;
 pub use trace::{Rule, ToldStep, TraceLine};
+pub use verdict::{Counts, Verdict, VerdictAlone};
 pub use worked::{a_session, alone, bytes, first_lines, frames, links, marks_of_two, room, states};
