@@ -11,6 +11,7 @@ pub mod Owing
 pub mod Outcomes
 pub mod Attaching
 pub mod Feeding
+pub mod Strict
 pub mod Unread
 pub mod Taking
 pub mod Ending
