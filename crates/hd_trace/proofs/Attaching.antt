@@ -1,19 +1,15 @@
 -- Which links an end may begin, by numbers.
-use Rattle.std.proofs.Common.{⊎_elim, ◌≡◌, ◌≤◌, ◌<◌, ℕ, Bool, true, false, List, [], ◌∷◌, Option, Some, None, refl, sym, ap, ◌∙◌, subst, arith}
-use Rattle.std.specs.Prelude.{◌⊎◌, ◌↔◌, ◌==◌, ◌||◌}
+use Rattle.std.proofs.Common.{⊎_elim, ◌≡◌, ◌≤◌, ◌<◌, ℕ, Bool, true, false, List, [], ◌∷◌, Option, Some, None, refl, sym, ap, ◌∙◌, arith}
+use Rattle.std.specs.Prelude.{◌==◌, ◌||◌}
 use Rattle.std.proofs.lemmas.Bool.{or_cases, eqb-true, eq-eqb}
-use Rattle.hd_delivery.specs.declared.vocabulary.Side.{Side}
 use Rattle.hd_delivery.specs.declared.vocabulary.Side.TheVariants.{Client, Server}
 use Rattle.hd_delivery.specs.Histories.{EndEvent, Attached, was_on}
-use Rattle.hd_delivery.specs.Worlds.{config, Event, ByClient, ByServer, alike, client_of}
+use Rattle.hd_delivery.specs.Worlds.{Event, ByClient, ByServer, alike, client_of}
 use Rattle.hd_delivery.specs.Bytes.{ByteStep, Bytes, Does, IsWorldOverBytes}
-use Rattle.hd_delivery.specs.Sides.{history}
-use Rattle.hd_trace.specs.Traces.{Setup, frames_beside, MayBeside}
-use Rattle.hd_trace.specs.Alone.{frames_alone, MayNameAlone, MayAlone}
+use Rattle.hd_trace.specs.Traces.{Setup}
+use Rattle.hd_trace.specs.Alone.{frames_alone, MayNameAlone}
 use Rattle.hd_trace.specs.Laws.{AreNamedAlone, AloneAgrees}
-use Rattle.hd_trace.specs.Marks.{marks_of}
-use Rattle.hd_trace.specs.ByMarks.{MayBeginBy}
-use Rattle.hd_trace.specs.ByNumbers.{last_link, IsAbove, IsNewBeside, IsNewAlone, AttachesByNumbers, AttachesAloneByNumbers}
+use Rattle.hd_trace.specs.ByNumbers.{last_link, IsAbove, AttachesByNumbers, AttachesAloneByNumbers}
 
 -- ---- names
 

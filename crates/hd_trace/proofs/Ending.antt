@@ -14,7 +14,7 @@ use Rattle.hd_delivery.specs.Laws.{whole_frames, FedIsWhole}
 use Rattle.hd_delivery.specs.AloneLaws.{FedIsLent}
 use Rattle.hd_delivery.specs.Sides.{other, history}
 use Rattle.hd_trace.specs.Traces.{Setup, frames_beside}
-use Rattle.hd_trace.specs.ByNumbers.{released, said_there, IsFaithfulWorld, IsStillAt}
+use Rattle.hd_trace.specs.ByNumbers.{TakenAreLent, released, said_there, IsFaithfulWorld, IsStillAt}
 use Rattle.hd_trace.proofs.Taking.{fed_there}
 
 sum-split : {A : Type 0} (f : A → ℕ) (xs : List A) (n : ℕ) → sum_by f (take n xs) + sum_by f (drop n xs) ≡ sum_by f xs
@@ -70,6 +70,14 @@ few_taken worlds facts x Client w l f =
     (facts x.limits x.wire (config Client x.terms) (client_of w) (worlds (alike x.limits) x.wire x.terms w f.is_world).0).taken_were_fed l
 few_taken worlds facts x Server w l f =
     (facts x.limits x.wire (config Server x.terms) (server_of w) (worlds (alike x.limits) x.wire x.terms w f.is_world).1).taken_were_fed l
+
+-- nor than the other end said
+pub taken_lent : FedIsWhole → WorldsAreHistories → FactsHold → TakenAreLent
+taken_lent is_whole worlds facts x side w l f at =
+    let fed = few_taken worlds facts x side w l f in
+    let same = ap length (fed_there is_whole x side w l f at) in
+    let few = few_whole (x.wire.spell x.terms.codec) (lent_frames l (frames_beside x (other side) w)) (length (bytes_on l (history side w))) in
+    omega (arith, fed, same, few)
 
 all_fed : FedIsLent → (x : Setup) (side : Side) (w : List (Event ByteStep)) (l : ℕ) → IsFaithfulWorld x w → IsStillAt x side w l → bytes_on l (history side w) ≡ said_there x side w l
 all_fed lent x side w l f s = whole (bytes_on l (history side w)) (said_there x side w l) (lent (alike x.limits) x.wire x.terms w side l f.is_world) s.fed

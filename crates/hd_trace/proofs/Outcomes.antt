@@ -1,18 +1,12 @@
 -- A verdict is one at most.
-use Rattle.std.proofs.Common.{◌≡◌, ℕ, Bool, true, false, List, refl, sym, ap, ◌∙◌, subst}
+use Rattle.std.proofs.Common.{◌≡◌, Bool, true, false, List, refl, sym, ap, ◌∙◌, subst}
 use Rattle.std.specs.Prelude.{◌↔◌, IsTrue}
-use Rattle.hd_delivery.specs.declared.vocabulary.Side.{Side}
-use Rattle.hd_delivery.specs.declared.vocabulary.Side.TheVariants.{Client, Server}
 use Rattle.hd_delivery.specs.Worlds.{Event}
 use Rattle.hd_delivery.specs.Bytes.{ByteStep}
-use Rattle.hd_trace.specs.declared.trace.ToldStep.{ToldStep}
-use Rattle.hd_trace.specs.declared.trace.TraceLine.{TraceLine}
 use Rattle.hd_trace.specs.declared.verdict.Counts.{Counts}
-use Rattle.hd_trace.specs.declared.verdict.Verdict.{Verdict}
 use Rattle.hd_trace.specs.declared.verdict.Verdict.TheVariants as verdict
-use Rattle.hd_trace.specs.declared.verdict.VerdictAlone.{VerdictAlone}
 use Rattle.hd_trace.specs.declared.verdict.VerdictAlone.TheVariants as alone
-use Rattle.hd_trace.specs.Traces.{Setup, frames_beside}
+use Rattle.hd_trace.specs.Traces.{Setup}
 use Rattle.hd_trace.specs.Alone.{frames_alone}
 use Rattle.hd_trace.specs.Laws.{LinesTellOneWorld, StepsTellOneHistory, OneVerdict, OneVerdictAlone}
 use Rattle.hd_trace.specs.Verdicts.{counts_of, IsCounted, VerdictIsOne, VerdictAloneIsOne}

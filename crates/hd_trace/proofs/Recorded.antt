@@ -1,5 +1,5 @@
 -- What is recorded of a world, or of one end, tells it; and lines are what is recorded of what they tell.
-use Rattle.std.proofs.Common.{inl, inr, ◌≡◌, ℕ, suc, false, List, [], ◌∷◌, ◌++◌, length, Some, refl, sym, ap, ◌∙◌, subst}
+use Rattle.std.proofs.Common.{inl, inr, ◌≡◌, ℕ, suc, List, [], ◌∷◌, ◌++◌, length, Some, refl, sym, ap, ◌∙◌, subst}
 use Rattle.std.specs.Prelude.{◌⊎◌, option_map, option_to_list}
 use Rattle.hd_delivery.specs.declared.vocabulary.Reason.TheVariants.{Done}
 use Rattle.hd_delivery.specs.declared.vocabulary.Side.{Side}

@@ -18,7 +18,7 @@ use Rattle.hd_trace.specs.Traces.{Setup, frames_beside}
 use Rattle.hd_trace.specs.Marks.{marks_of}
 use Rattle.hd_trace.specs.ByMarks.{next_number_by, given_by, got_of}
 use Rattle.hd_trace.specs.MarkLaws.{TakesAreMarked}
-use Rattle.hd_trace.specs.ByNumbers.{IsFaithfulWorld, IsOpenOn, frame_there, next_there, taken_by}
+use Rattle.hd_trace.specs.ByNumbers.{IsFaithfulWorld, IsOpenOn, frame_there, next_there, NextIsFed, taken_by}
 
 took_only : (s : EndEvent) (got : Got) → got_of s ≡ Some got → s ≡ Took got
 took_only (Attached l now) got e = absurd (cc)
@@ -74,6 +74,10 @@ pub fed_there : FedIsWhole → (x : Setup) (side : Side) (w : List (Event ByteSt
 fed_there whole x Client w l f at = (whole (alike x.limits) x.wire x.terms w f.faithful f.is_world).0 l at
 fed_there whole x Server w l f at = (whole (alike x.limits) x.wire x.terms w f.faithful f.is_world).1 l at
 
+pub next_fed : FedIsWhole → NextIsFed
+next_fed whole x side w l f at = ap (λ fs. slice_get fs (taken_count l (frames_beside x side w))) (fed_there whole x side w l f at)
+    ∙ whole_at (x.wire.spell x.terms.codec) (lent_frames l (frames_beside x (other side) w)) (taken_count l (frames_beside x side w)) (length (bytes_on l (history side w)))
+
 -- what a frame that is there gives, in a history where the link is the present one
 module _ (marked : TakesAreMarked) (c : Config) (k : List EndEvent) (l : ℕ) (got : Got) (at : present_link k ≡ Some l) where
   gives : (f : LinkFrame) → got_of (reads c k (next_number c k l) f) ≡ given_by c (marks_of c k) (next_number_by (marks_of c k) l) f
@@ -103,5 +107,4 @@ by_lines whole marked x side w l got f on = (
     is = ap (λ b. if b then None else next_frame (config side x.terms) (frames_beside x side w) (present_link (frames_beside x side w))) on.unclosed
         ∙ (ap (next_frame (config side x.terms) (frames_beside x side w)) on.here
         ∙ ap (option_map (reads (config side x.terms) (frames_beside x side w) (next_number (config side x.terms) (frames_beside x side w) l)))
-        (ap (λ fs. slice_get fs (taken_count l (frames_beside x side w))) (fed_there whole x side w l f on.here)
-        ∙ whole_at (x.wire.spell x.terms.codec) (lent_frames l (frames_beside x (other side) w)) (taken_count l (frames_beside x side w)) (length (bytes_on l (history side w)))))
+        (next_fed whole x side w l f on.here))

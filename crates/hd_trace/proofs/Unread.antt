@@ -1,6 +1,6 @@
 -- How many bytes are unread, by numbers: each frame that an end was fed has as many bytes as the other end spelled it in. For a world is the same with
 -- readers that stop at a frame of another size.
-use Rattle.std.proofs.Common.{inl, inr, ⊎_elim, ◌≡◌, ℕ, zero, suc, ◌+◌, ◌-◌, ◌<◌, ◌≤◌, Bool, true, false, List, [], ◌∷◌, ◌++◌, length, take, drop, Some, refl, sym, ap, ◌∙◌, subst, arith, length-drop}
+use Rattle.std.proofs.Common.{inl, inr, ⊎_elim, ◌≡◌, ℕ, zero, suc, ◌+◌, ◌-◌, ◌<◌, ◌≤◌, true, false, List, [], ◌∷◌, ◌++◌, length, take, drop, Some, refl, sym, ap, ◌∙◌, subst, arith, length-drop}
 use Rattle.std.proofs.lemmas.List.{append_cancel_left}
 use Rattle.std.specs.Prelude.{◌⊎◌, nat_le, sum_by, Contains, if◌then◌else◌}
 use Rattle.std.proofs.lemmas.Bool.{eq-eqb}
@@ -15,13 +15,12 @@ use Rattle.hd_delivery.specs.declared.vocabulary.Side.TheVariants.{Client, Serve
 use Rattle.hd_delivery.specs.Frames.{LinkFrame}
 use Rattle.hd_delivery.specs.Histories.{EndEvent, Attached, Detached, Fed, Took, Failed, Sent, Lent, Ticked, Silenced, Closed, Config, is_this, present_link, first_link, fed_frames, lent_frames, taken_count, sent_messages, codec_of, is_closed}
 use Rattle.hd_delivery.specs.Worlds.{Limits, Allowed, Terms, config, Event, ByClient, ByServer, alike, client_of, server_of}
-use Rattle.hd_delivery.specs.Bytes.{Wire, sizes_of, IsFaithful, IsSoundWire, cut, frames, ByteStep, Bytes, Does, bare_steps, bytes_on, in_frames, new_frames, spelling_of, read_count, unread, unread_count, cut_by, cut_all, codec_after, AllowedOverBytes, IsWorldOverBytes}
+use Rattle.hd_delivery.specs.Bytes.{Wire, sizes_of, IsFaithful, IsSoundWire, cut, frames, ByteStep, Bytes, Does, bare_steps, bytes_on, in_frames, new_frames, spelling_of, read_count, unread_count, cut_by, cut_all, codec_after, AllowedOverBytes, IsWorldOverBytes}
 use Rattle.hd_delivery.specs.OneHistory.{IsHistory}
 use Rattle.hd_delivery.specs.Laws.{whole_frames, AreWholeFrames, FedIsCut, FedIsUnseen, FedIsWhole}
 use Rattle.hd_delivery.specs.HistoryLaws.{FactsHold, HistoriesAreInOrder, StandsThere, UnreadGrows, WorldsAreHistories}
-use Rattle.hd_delivery.specs.Sides.{other, history}
-use Rattle.hd_trace.specs.ByNumbers.{IsFaithfulWorld, UnreadByNumbers}
-use Rattle.hd_trace.proofs.Strict.{size_of, strict, strict_sound, strict_faithful, AreSized, Agree, cuts_agree, sizes_add_up}
+use Rattle.hd_trace.specs.ByNumbers.{UnreadByNumbers}
+use Rattle.hd_trace.proofs.Strict.{size_of, strict, strict_sound, strict_faithful, Agree, cuts_agree, sizes_add_up}
 
 -- ---- lists
 
@@ -223,17 +222,22 @@ module _ (facts : FactsHold) (is_cut : FedIsCut) (unseen : FedIsUnseen) (is_whol
     by_client : (s : ByteStep) (w : List (Event ByteStep)) → IsWorldOverBytes (alike limits) wire terms (ByClient s ∷ w) → IsWithin (sent wire (s ∷ client_of w) (server_of w)) → IsTheSame w
         → IsTheSame (ByClient s ∷ w)
     by_client (Does s) w i within t = record {
-      is_world = (t.is_world, allowed_too (config Client terms) (config Server terms) (client_of w) (server_of w) (worlds (alike limits) wire terms w i.0).0
-          (worlds (alike limits) strictest terms w t.is_world).0 t.at_client t.at_server (Does s) i.1);
+      is_world = (
+        t.is_world,
+        allowed_too (config Client terms) (config Server terms) (client_of w) (server_of w) (worlds (alike limits) wire terms w i.0).0
+            (worlds (alike limits) strictest terms w t.is_world).0 t.at_client t.at_server (Does s) i.1,
+      );
       at_client = ap (λ k. s ∷ k) t.at_client;
       at_server = t.at_server;
     }
     by_client (Bytes piece) w i within t =
         let c = config Client terms in
         let a = i.1 in
-        let is_world : IsWorldOverBytes (alike limits) strictest terms (ByClient (Bytes piece) ∷ w) =
-        (t.is_world, allowed_too c (config Server terms) (client_of w) (server_of w) (worlds (alike limits) wire terms w i.0).0
-        (worlds (alike limits) strictest terms w t.is_world).0 t.at_client t.at_server (Bytes piece) i.1) in
+        let is_world : IsWorldOverBytes (alike limits) strictest terms (ByClient (Bytes piece) ∷ w) = (
+          t.is_world,
+          allowed_too c (config Server terms) (client_of w) (server_of w) (worlds (alike limits) wire terms w i.0).0
+              (worlds (alike limits) strictest terms w t.is_world).0 t.at_client t.at_server (Bytes piece) i.1,
+        ) in
         record {
           is_world = is_world;
           at_client = completes terms wire c (config Server terms) (client_of w) (server_of w) piece a.link t.at_client t.at_server a.at
@@ -245,17 +249,22 @@ module _ (facts : FactsHold) (is_cut : FedIsCut) (unseen : FedIsUnseen) (is_whol
     by_server : (s : ByteStep) (w : List (Event ByteStep)) → IsWorldOverBytes (alike limits) wire terms (ByServer s ∷ w) → IsWithin (sent wire (client_of w) (s ∷ server_of w)) → IsTheSame w
         → IsTheSame (ByServer s ∷ w)
     by_server (Does s) w i within t = record {
-      is_world = (t.is_world, allowed_too (config Server terms) (config Client terms) (server_of w) (client_of w) (worlds (alike limits) wire terms w i.0).1
-          (worlds (alike limits) strictest terms w t.is_world).1 t.at_server t.at_client (Does s) i.1);
+      is_world = (
+        t.is_world,
+        allowed_too (config Server terms) (config Client terms) (server_of w) (client_of w) (worlds (alike limits) wire terms w i.0).1
+            (worlds (alike limits) strictest terms w t.is_world).1 t.at_server t.at_client (Does s) i.1,
+      );
       at_client = t.at_client;
       at_server = ap (λ k. s ∷ k) t.at_server;
     }
     by_server (Bytes piece) w i within t =
         let c = config Server terms in
         let a = i.1 in
-        let is_world : IsWorldOverBytes (alike limits) strictest terms (ByServer (Bytes piece) ∷ w) =
-        (t.is_world, allowed_too c (config Client terms) (server_of w) (client_of w) (worlds (alike limits) wire terms w i.0).1
-        (worlds (alike limits) strictest terms w t.is_world).1 t.at_server t.at_client (Bytes piece) i.1) in
+        let is_world : IsWorldOverBytes (alike limits) strictest terms (ByServer (Bytes piece) ∷ w) = (
+          t.is_world,
+          allowed_too c (config Client terms) (server_of w) (client_of w) (worlds (alike limits) wire terms w i.0).1
+              (worlds (alike limits) strictest terms w t.is_world).1 t.at_server t.at_client (Bytes piece) i.1,
+        ) in
         record {
           is_world = is_world;
           at_client = t.at_client;

@@ -8,7 +8,7 @@ use Rattle.hd_delivery.specs.declared.vocabulary.Side.TheVariants.{Client, Serve
 use Rattle.hd_delivery.specs.declared.vocabulary.State.TheVariants.{Ready}
 use Rattle.hd_delivery.specs.Numbers.{most_framing}
 use Rattle.hd_delivery.specs.Frames.{LinkFrame}
-use Rattle.hd_delivery.specs.Histories.{Config, EndEvent, Attached, Took, present_link, was_on, lent_frames, taken_count, sent_messages, codec_of, is_resumable, is_closed, acked_count, most_lent, state}
+use Rattle.hd_delivery.specs.Histories.{Config, EndEvent, Attached, Took, present_link, was_on, fed_frames, lent_frames, taken_count, sent_messages, codec_of, is_resumable, is_closed, acked_count, most_lent, state}
 use Rattle.hd_delivery.specs.Due.{due}
 use Rattle.hd_delivery.specs.Processes.{processes}
 use Rattle.hd_delivery.specs.Worlds.{Limits, Sizes, HasRoom, config, Event, alike, client_of, server_of}
@@ -109,6 +109,16 @@ taken_by c m l (Some f) = given_by c m (next_number_by m l) f
 abbrev pub next_there : Setup → Side → List (Event ByteStep) → ℕ → Option LinkFrame
 next_there x side w l =
     frame_there (x.wire.spell x.terms.codec) (lent_frames l (frames_beside x (other side) w)) (taken_count l (frames_beside x side w)) (length (bytes_on l (history side w)))
+
+-- it is the next one that this side was fed
+abbrev pub NextIsFed : Type 0
+NextIsFed = (x : Setup) (side : Side) (w : List (Event ByteStep)) (l : ℕ) → IsFaithfulWorld x w → present_link (frames_beside x side w) ≡ Some l
+    → slice_get (fed_frames l (frames_beside x side w)) (taken_count l (frames_beside x side w)) ≡ next_there x side w l
+
+-- no more frames were taken there than the other end said
+abbrev pub TakenAreLent : Type 0
+TakenAreLent = (x : Setup) (side : Side) (w : List (Event ByteStep)) (l : ℕ) → IsFaithfulWorld x w → present_link (frames_beside x side w) ≡ Some l
+    → taken_count l (frames_beside x side w) ≤ length (lent_frames l (frames_beside x (other side) w))
 
 -- exactly what it gives is taken
 abbrev pub TakesByLines : Type 0

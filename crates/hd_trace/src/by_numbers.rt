@@ -1,7 +1,7 @@
 //! The rules of two ends by numbers, so that whoever judges a trace keeps no lists of steps. No function here does anything: its contract is the
 //! law.
 
-ghost use Rattle.hd_trace.specs.ByNumbers.{AttachesAloneByNumbers, AttachesByNumbers, FeedsByNumbers, RoomByNumbers, StillByNumbers, TakesByLines, UnreadByNumbers};
+ghost use Rattle.hd_trace.specs.ByNumbers.{AttachesAloneByNumbers, AttachesByNumbers, FeedsByNumbers, NextIsFed, RoomByNumbers, StillByNumbers, TakenAreLent, TakesByLines, UnreadByNumbers};
 
 use crate::laws::{alone_agrees, takes_are_marked};
 use hd_delivery::{
@@ -45,6 +45,23 @@ pub fn unread_by_numbers()
     fed_is_whole();
     histories_are_in_order();
     unread_grows();
+    worlds_are_histories();
+}
+
+/// The next frame that an end was fed on its link is the next one that the other end said there, once all bytes of that were fed; for readers that
+/// are faithful to what was sent.
+pub fn next_is_fed()
+    ensures { NextIsFed }
+{
+    fed_is_whole();
+}
+
+/// An end took no more frames on its link than the other end said there; for readers that are faithful to what was sent.
+pub fn taken_are_lent()
+    ensures { TakenAreLent }
+{
+    facts_hold();
+    fed_is_whole();
     worlds_are_histories();
 }
 

@@ -40,8 +40,8 @@ mod verdict;
 mod worked;
 
 pub use by_numbers::{
-    attaches_alone_by_numbers, attaches_by_numbers, feeds_by_numbers, room_by_numbers,
-    still_by_numbers, takes_by_lines, unread_by_numbers,
+    attaches_alone_by_numbers, attaches_by_numbers, feeds_by_numbers, next_is_fed, room_by_numbers,
+    still_by_numbers, taken_are_lent, takes_by_lines, unread_by_numbers,
 };
 pub use given::Given;
 pub use laws::{
