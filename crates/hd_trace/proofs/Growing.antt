@@ -17,7 +17,7 @@ use Rattle.hd_trace.specs.MarkLaws.{Follows}
 
 -- marks with these of what was said and read on the link
 abbrev pub on_link : Marks → List LinkFrame → Option ℕ → Marks
-on_link m said next = record m { opened = has_frames said; said = number said; told = most_told said; parted = has_close said; next = next }
+on_link m said next = record m { opened = has_frames said; said = number said; reported = most_told said; parted = has_close said; next = next }
 
 some-push : (frames : List LinkFrame) (f : LinkFrame) → has_frames (frames ++ f ∷ []) ≡ true
 some-push [] f = refl
@@ -63,7 +63,7 @@ lent_read (Some l) f k = refl
 
 -- marks once a frame more was said
 abbrev pub said_more : Marks → LinkFrame → Marks
-said_more m f = record m { opened = true; said = count m.said f; told = max m.told (told_count f); parted = (m.parted || has_close (f ∷ [])) }
+said_more m f = record m { opened = true; said = count m.said f; reported = max m.reported (told_count f); parted = (m.parted || has_close (f ∷ [])) }
 
 or_false : (b : Bool) → (b || false) ≡ b
 or_false true = refl
@@ -92,10 +92,10 @@ module _ (grow : LinksGrow) (counts : FramesCount) (untouched : UnusedIsUntouche
 
   said_push : (m : Marks) (said : List LinkFrame) (f : LinkFrame) (i : Option ℕ) → on_link m (said ++ f ∷ []) i ≡ said_more (on_link m said i) f
   said_push m said f i = let g = counts said f in
-      ap (λ b. record m { opened = b; said = number (said ++ f ∷ []); told = most_told (said ++ f ∷ []); parted = has_close (said ++ f ∷ []); next = i }) (some-push said f)
-      ∙ (ap (λ n. record m { opened = true; said = n; told = most_told (said ++ f ∷ []); parted = has_close (said ++ f ∷ []); next = i }) g.next
-      ∙ (ap (λ n. record m { opened = true; said = count (number said) f; told = n; parted = has_close (said ++ f ∷ []); next = i }) g.told
-      ∙ ap (λ b. record m { opened = true; said = count (number said) f; told = max (most_told said) (told_count f); parted = b; next = i }) g.closes))
+      ap (λ b. record m { opened = b; said = number (said ++ f ∷ []); reported = most_told (said ++ f ∷ []); parted = has_close (said ++ f ∷ []); next = i }) (some-push said f)
+      ∙ (ap (λ n. record m { opened = true; said = n; reported = most_told (said ++ f ∷ []); parted = has_close (said ++ f ∷ []); next = i }) g.next
+      ∙ (ap (λ n. record m { opened = true; said = count (number said) f; reported = n; parted = has_close (said ++ f ∷ []); next = i }) g.told
+      ∙ ap (λ b. record m { opened = true; said = count (number said) f; reported = max (most_told said) (told_count f); parted = b; next = i }) g.closes))
 
   said_there : (m : Marks) (f : LinkFrame) (l : ℕ) → present_link k ≡ Some l → on_link m (lent_on (present_link k) (Lent f ∷ k)) (number (read_on (present_link k) (Lent f ∷ k)))
       ≡ said_more (on_link m (lent_on (present_link k) k) (number (read_on (present_link k) k))) f
@@ -108,8 +108,8 @@ module _ (grow : LinksGrow) (counts : FramesCount) (untouched : UnusedIsUntouche
       let base : Marks = record (marks_of c k) { written = suc (max (acked_count k) (written_place k)); furthest = max (suc (max (acked_count k) (written_place k))) (most_lent k); quiet = false; wrote = moment k } in
       let on : Marks = on_link base (lent_on (present_link k) k) (number (read_on (present_link k) k)) in
       said_there base (Numbered m) l at
-      ∙ (ap (λ n. record (said_more on (Numbered m)) { told = n }) (omega arith)
-      ∙ ap (λ b. record (said_more on (Numbered m)) { told = on.told; parted = b }) (or_false on.parted))
+      ∙ (ap (λ n. record (said_more on (Numbered m)) { reported = n }) (omega arith)
+      ∙ ap (λ b. record (said_more on (Numbered m)) { reported = on.reported; parted = b }) (or_false on.parted))
 
   lent_follows : (l : ℕ) (f : LinkFrame) → present_link k ≡ Some l → marks_of c (Lent f ∷ k) ≡ lent f (marks_of c k)
   lent_follows l (Numbered m) at = lent_message_follows l m at

@@ -1,11 +1,12 @@
 pub mod Steps
-pub mod Verdicts
-pub mod Told
+pub mod OneVerdict
+pub mod AfterLine
 pub mod Worlds
 pub mod OneEnd
 pub mod Recorded
 pub mod Growing
 pub mod Dues
+pub mod Ticking
 pub mod Giving
 pub mod Owing
 pub mod Outcomes

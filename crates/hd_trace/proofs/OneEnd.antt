@@ -11,8 +11,8 @@ use Rattle.hd_trace.specs.Alone.{frames_alone, MayAlone, MakesAlone, TellHistory
 use Rattle.hd_trace.specs.Breaking.{BreaksHistory}
 use Rattle.hd_trace.specs.Laws.{IsToldHistory, ToldIsHistory, HasOneVerdict}
 use Rattle.hd_trace.proofs.Steps.{IsOwn, one_step, no_step, step_or_rule, one_rule}
-use Rattle.hd_trace.proofs.Told as told
-use Rattle.hd_trace.proofs.Verdicts as verdicts
+use Rattle.hd_trace.proofs.AfterLine as after_line
+use Rattle.hd_trace.proofs.OneVerdict as verdicts
 
 -- ---- what may come next
 
@@ -65,12 +65,12 @@ goes_on : (x : Setup) (side : Side) (g : List ByteStep) (now : ℕ) (step : Told
 goes_on x side g now step s m i = record {
   is_history = (i.is_history, m.allowed.0);
   named = (i.named, m.allowed.1);
-  in_time = told.in_time x (config side x.terms) g now step s m.told i.in_time;
-  faultless = told.faultless x (config side x.terms) g now step s m.told i.faultless;
+  in_time = after_line.in_time x (config side x.terms) g now step s m.tells i.in_time;
+  faultless = after_line.faultless x (config side x.terms) g now step s m.tells i.faultless;
 }
 
 pub is_history : ToldIsHistory
-is_history x side [] h e = subst (λ h. IsToldHistory x side 0 h) (sym e) (record { is_history = tt; named = tt; in_time = told.stays 0; faultless = tt })
+is_history x side [] h e = subst (λ h. IsToldHistory x side 0 h) (sym e) (record { is_history = tt; named = tt; in_time = after_line.stays 0; faultless = tt })
 is_history x side (step ∷ steps) h t = subst (λ h. IsToldHistory x side (clock (step ∷ steps)) h) (sym t.2.2)
     (goes_on x side t.0 (clock steps) step t.1 t.2.1 (is_history x side steps t.0 t.2.0))
 

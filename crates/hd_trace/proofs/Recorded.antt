@@ -26,18 +26,18 @@ IsNoFrames s = Unit {0}
 abbrev pub IsToldBy : Setup → Config → List EndEvent → ℕ → ByteStep → Type 0
 IsToldBy x c k now s = (step : ToldStep) × (told_step x c k s ≡ Some step) × Tells x c k now step s
 
-told : (x : Setup) (c : Config) (k : List EndEvent) (now : ℕ) (s : ByteStep) → IsNoFrames s → CanBeTold now s → IsToldBy x c k now s
-told x c k now (Bytes piece) i t = (Feed piece, refl, refl)
-told x c k now (Does (Attached l at)) i t = (Attach l, refl, ap (λ n. Does (Attached l n)) t)
-told x c k now (Does (Detached at)) i t = (Detach, refl, ap (λ n. Does (Detached n)) t)
-told x c k now (Does (Fed piece)) i t = absurd i
-told x c k now (Does (Took got)) i t = (Take (x.words (suc (length (processed_messages k))) got), refl, (got, (refl, refl)))
-told x c k now (Does (Failed fault)) i t = absurd t
-told x c k now (Does (Sent m)) i t = (Send m, refl, refl)
-told x c k now (Does (Lent f)) i t = (Lend (x.wire.spell (codec_of c k) f), refl, (f, (refl, refl)))
-told x c k now (Does (Ticked at)) i t = (Tick at, refl, (t, inl refl))
-told x c k now (Does (Silenced at)) i t = (Tick at, refl, (t, inr refl))
-told x c k now (Does (Closed reason allow)) i t = (
+line_of_step : (x : Setup) (c : Config) (k : List EndEvent) (now : ℕ) (s : ByteStep) → IsNoFrames s → CanBeTold now s → IsToldBy x c k now s
+line_of_step x c k now (Bytes piece) i t = (Feed piece, refl, refl)
+line_of_step x c k now (Does (Attached l at)) i t = (Attach l, refl, ap (λ n. Does (Attached l n)) t)
+line_of_step x c k now (Does (Detached at)) i t = (Detach, refl, ap (λ n. Does (Detached n)) t)
+line_of_step x c k now (Does (Fed piece)) i t = absurd i
+line_of_step x c k now (Does (Took got)) i t = (Take (x.words (suc (length (processed_messages k))) got), refl, (got, (refl, refl)))
+line_of_step x c k now (Does (Failed fault)) i t = absurd t
+line_of_step x c k now (Does (Sent m)) i t = (Send m, refl, refl)
+line_of_step x c k now (Does (Lent f)) i t = (Lend (x.wire.spell (codec_of c k) f), refl, (f, (refl, refl)))
+line_of_step x c k now (Does (Ticked at)) i t = (Tick at, refl, (t, inl refl))
+line_of_step x c k now (Does (Silenced at)) i t = (Tick at, refl, (t, inr refl))
+line_of_step x c k now (Does (Closed reason allow)) i t = (
   Close,
   ap (λ r. told_step x c k (Does (Closed r allow))) t.0 ∙ ap (λ b. told_step x c k (Does (Closed Done b))) t.1,
   ap (λ r. Does (Closed r allow)) t.0 ∙ ap (λ b. Does (Closed Done b)) t.1,
@@ -60,20 +60,20 @@ no_frames May none (Does (Closed reason allow)) m = tt
 pub tell : RecordsTell
 tell x [] i t = refl
 tell x (ByClient s ∷ w) i t =
-    let line = told x (config Client x.terms) (frames_beside x Client w) (clock (steps_of (lines_of x w))) s (no_frames (MayBeside x Client w) (λ piece m. m) s i.1) t.1 in
+    let line = line_of_step x (config Client x.terms) (frames_beside x Client w) (clock (steps_of (lines_of x w))) s (no_frames (MayBeside x Client w) (λ piece m. m) s i.1) t.1 in
     subst (λ o. TellWorld x (option_to_list (option_map (line_of Client) o) ++ lines_of x w) (ByClient s ∷ w)) (sym line.1)
-    (w, s, (tell x w i.0 t.0, record { told = line.2; allowed = i.1 }, refl))
+    (w, s, (tell x w i.0 t.0, record { tells = line.2; allowed = i.1 }, refl))
 tell x (ByServer s ∷ w) i t =
-    let line = told x (config Server x.terms) (frames_beside x Server w) (clock (steps_of (lines_of x w))) s (no_frames (MayBeside x Server w) (λ piece m. m) s i.1) t.1 in
+    let line = line_of_step x (config Server x.terms) (frames_beside x Server w) (clock (steps_of (lines_of x w))) s (no_frames (MayBeside x Server w) (λ piece m. m) s i.1) t.1 in
     subst (λ o. TellWorld x (option_to_list (option_map (line_of Server) o) ++ lines_of x w) (ByServer s ∷ w)) (sym line.1)
-    (w, s, (tell x w i.0 t.0, record { told = line.2; allowed = i.1 }, refl))
+    (w, s, (tell x w i.0 t.0, record { tells = line.2; allowed = i.1 }, refl))
 
 pub tell_alone : RecordsTellAlone
 tell_alone x side [] i n t = refl
 tell_alone x side (s ∷ h) i n t =
-    let line = told x (config side x.terms) (frames_alone x side h) (clock (lines_alone x side h)) s (no_frames (MayAlone x side h) (λ piece m. m.0) s (i.1, n.1)) t.1 in
+    let line = line_of_step x (config side x.terms) (frames_alone x side h) (clock (lines_alone x side h)) s (no_frames (MayAlone x side h) (λ piece m. m.0) s (i.1, n.1)) t.1 in
     subst (λ o. TellHistory x side (option_to_list o ++ lines_alone x side h) (s ∷ h)) (sym line.1)
-    (h, s, (tell_alone x side h i.0 n.0 t.0, record { told = line.2; allowed = (i.1, n.1) }, refl))
+    (h, s, (tell_alone x side h i.0 n.0 t.0, record { tells = line.2; allowed = (i.1, n.1) }, refl))
 
 -- ---- lines are what is recorded
 
@@ -112,14 +112,14 @@ pub is_recorded : ToldIsRecorded
 is_recorded x [] w t = subst (λ w. ([] ≡ lines_of x w) × AllCanBeTold x w) (sym t) (refl, tt)
 is_recorded x (line ∷ lines) w t =
     let before = is_recorded x lines t.0 t.2.0 in
-    let here = recorded x (config line.side x.terms) (frames_beside x line.side t.0) (clock (steps_of lines)) line.step t.1 t.2.1.told in
+    let here = recorded x (config line.side x.terms) (frames_beside x line.side t.0) (clock (steps_of lines)) line.step t.1 t.2.1.tells in
     subst (λ w. (line ∷ lines ≡ lines_of x w) × AllCanBeTold x w) (sym t.2.2) (with_line x line.side t.0 line.step t.1 lines before.0 before.1 here)
 
 pub is_recorded_alone : ToldIsRecordedAlone
 is_recorded_alone x side [] h t = subst (λ h. ([] ≡ lines_alone x side h) × AllCanBeToldAlone x side h) (sym t) (refl, tt)
 is_recorded_alone x side (step ∷ steps) h t =
     let before = is_recorded_alone x side steps t.0 t.2.0 in
-    let here = recorded x (config side x.terms) (frames_alone x side t.0) (clock steps) step t.1 t.2.1.told in
+    let here = recorded x (config side x.terms) (frames_alone x side t.0) (clock steps) step t.1 t.2.1.tells in
     subst (λ h. (step ∷ steps ≡ lines_alone x side h) × AllCanBeToldAlone x side h) (sym t.2.2) (
       ap (λ ls. step ∷ ls) before.0 ∙ ap (λ o. option_to_list o ++ lines_alone x side t.0) (sym here.0),
       (before.1, subst (λ ls. CanBeTold (clock ls) t.1) before.0 here.1),

@@ -57,24 +57,24 @@ module _ (x : Setup) (May : ByteStep → Type 0) (c : Config) (k : List EndEvent
   ticks later s t m n (inr a) (inr b) = a ∙ sym b
 
   pub one_step : (step : ToldStep) (s t : ByteStep) → Makes x May c k now step s → Makes x May c k now step t → s ≡ t
-  one_step (Attach l) s t m n = m.told ∙ sym n.told
-  one_step Detach s t m n = m.told ∙ sym n.told
-  one_step (Feed piece) s t m n = m.told ∙ sym n.told
+  one_step (Attach l) s t m n = m.tells ∙ sym n.tells
+  one_step Detach s t m n = m.tells ∙ sym n.tells
+  one_step (Feed piece) s t m n = m.tells ∙ sym n.tells
   one_step (Lend bytes) s t m n =
-      let a = m.told in
-      let b = n.told in
+      let a = m.tells in
+      let b = n.tells in
       let p = does (Lent a.0) (may_as s (Does (Lent a.0)) a.1.0 m.allowed) in
       let q = does (Lent b.0) (may_as t (Does (Lent b.0)) b.1.0 n.allowed) in
       a.1.0 ∙ (ap (λ f. Does (Lent f)) (lent_once a.0 b.0 p q) ∙ sym b.1.0)
-  one_step (Send m') s t m n = m.told ∙ sym n.told
-  one_step (Take told) s t m n =
-      let a = m.told in
-      let b = n.told in
+  one_step (Send m') s t m n = m.tells ∙ sym n.tells
+  one_step (Take words) s t m n =
+      let a = m.tells in
+      let b = n.tells in
       let p = does (Took a.0) (may_as s (Does (Took a.0)) a.1.0 m.allowed) in
       let q = does (Took b.0) (may_as t (Does (Took b.0)) b.1.0 n.allowed) in
       a.1.0 ∙ (ap (λ f. Does (Took f)) (took_once a.0 b.0 p q) ∙ sym b.1.0)
-  one_step (Tick later) s t m n = ticks later s t m.allowed n.allowed m.told.1 n.told.1
-  one_step Close s t m n = m.told ∙ sym n.told
+  one_step (Tick later) s t m n = ticks later s t m.allowed n.allowed m.tells.1 n.tells.1
+  one_step Close s t m n = m.tells ∙ sym n.tells
 
   -- nothing is due without a link, and nothing is taken there or on a closed end
   unlinked_due : (f : LinkFrame) → present_link k ≡ None → due c k ≡ Some f → ⊥
@@ -90,28 +90,28 @@ module _ (x : Setup) (May : ByteStep → Type 0) (c : Config) (k : List EndEvent
   closed_take false rest got p e = absurd (let z : false ≡ true = p in cc)
 
   -- what the line of something that was lent or taken means
-  lent_is : (bytes : List ℕ) (s : ByteStep) (m : Makes x May c k now (Lend bytes) s) → due c k ≡ Some m.told.0
-  lent_is bytes s m = does (Lent m.told.0) (may_as s (Does (Lent m.told.0)) m.told.1.0 m.allowed)
+  lent_is : (bytes : List ℕ) (s : ByteStep) (m : Makes x May c k now (Lend bytes) s) → due c k ≡ Some m.tells.0
+  lent_is bytes s m = does (Lent m.tells.0) (may_as s (Does (Lent m.tells.0)) m.tells.1.0 m.allowed)
 
-  took_is : (told : List ℕ) (s : ByteStep) (m : Makes x May c k now (Take told) s) → processes c k ≡ Some (Took m.told.0)
-  took_is told s m = does (Took m.told.0) (may_as s (Does (Took m.told.0)) m.told.1.0 m.allowed)
+  took_is : (words : List ℕ) (s : ByteStep) (m : Makes x May c k now (Take words) s) → processes c k ≡ Some (Took m.tells.0)
+  took_is words s m = does (Took m.tells.0) (may_as s (Does (Took m.tells.0)) m.tells.1.0 m.allowed)
 
   pub no_step : (step : ToldStep) (r : Rule) (s : ByteStep) → Breaks r x May c k now step → Makes x May c k now step s → ⊥
-  no_step (Attach l) rule.Link s b m = b (may_as s (Does (Attached l now)) m.told m.allowed)
-  no_step Detach rule.Link s b m = let a = does (Detached now) (may_as s (Does (Detached now)) m.told m.allowed) in gone a.0 (present_link k) b a.1
-  no_step (Feed piece) rule.Link s b m = let a = hears piece (may_as s (Bytes piece) m.told m.allowed) in gone a.link (present_link k) b a.at
-  no_step (Feed piece) rule.State s b m = let a = hears piece (may_as s (Bytes piece) m.told m.allowed) in clash (is_closed c k) b a.unclosed
-  no_step (Feed piece) rule.Bytes s b m = b (may_as s (Bytes piece) m.told m.allowed)
-  no_step (Lend bytes) rule.Link s b m = unlinked_due m.told.0 b (lent_is bytes s m)
-  no_step (Lend bytes) rule.Due s b m = b (ap (option_map (x.wire.spell (codec_of c k))) (lent_is bytes s m) ∙ ap Some m.told.1.1)
-  no_step (Take told) rule.Link s b m = unlinked_take (is_closed c k) (present_link k) m.told.0 b (took_is told s m)
-  no_step (Take told) rule.State s b m = closed_take (is_closed c k) (next_frame c k (present_link k)) m.told.0 b (took_is told s m)
-  no_step (Take told) rule.Took s b m = b m.told.0 (took_is told s m) m.told.1.1
-  no_step (Send m') rule.State s (inl b) m = let a = does (Sent m') (may_as s (Does (Sent m')) m.told m.allowed) in clash (is_closed c k) b a.unclosed
-  no_step (Send m') rule.State s (inr b) m = let a = does (Sent m') (may_as s (Does (Sent m')) m.told m.allowed) in clash (is_shaken k) a.shakes b
-  no_step (Send m') rule.Room s b m = b (may_as s (Does (Sent m')) m.told m.allowed)
-  no_step (Tick later) rule.State s b m = let a = m.told.0 in absurd (omega arith)
-  no_step Close rule.State s b m = let a = does (Closed Done false) (may_as s (Does (Closed Done false)) m.told m.allowed) in clash (is_closed c k) b a
+  no_step (Attach l) rule.Link s b m = b (may_as s (Does (Attached l now)) m.tells m.allowed)
+  no_step Detach rule.Link s b m = let a = does (Detached now) (may_as s (Does (Detached now)) m.tells m.allowed) in gone a.0 (present_link k) b a.1
+  no_step (Feed piece) rule.Link s b m = let a = hears piece (may_as s (Bytes piece) m.tells m.allowed) in gone a.link (present_link k) b a.at
+  no_step (Feed piece) rule.State s b m = let a = hears piece (may_as s (Bytes piece) m.tells m.allowed) in clash (is_closed c k) b a.unclosed
+  no_step (Feed piece) rule.Bytes s b m = b (may_as s (Bytes piece) m.tells m.allowed)
+  no_step (Lend bytes) rule.Link s b m = unlinked_due m.tells.0 b (lent_is bytes s m)
+  no_step (Lend bytes) rule.Due s b m = b (ap (option_map (x.wire.spell (codec_of c k))) (lent_is bytes s m) ∙ ap Some m.tells.1.1)
+  no_step (Take words) rule.Link s b m = unlinked_take (is_closed c k) (present_link k) m.tells.0 b (took_is words s m)
+  no_step (Take words) rule.State s b m = closed_take (is_closed c k) (next_frame c k (present_link k)) m.tells.0 b (took_is words s m)
+  no_step (Take words) rule.Took s b m = b m.tells.0 (took_is words s m) m.tells.1.1
+  no_step (Send m') rule.State s (inl b) m = let a = does (Sent m') (may_as s (Does (Sent m')) m.tells m.allowed) in clash (is_closed c k) b a.unclosed
+  no_step (Send m') rule.State s (inr b) m = let a = does (Sent m') (may_as s (Does (Sent m')) m.tells m.allowed) in clash (is_shaken k) a.shakes b
+  no_step (Send m') rule.Room s b m = b (may_as s (Does (Sent m')) m.tells m.allowed)
+  no_step (Tick later) rule.State s b m = let a = m.tells.0 in absurd (omega arith)
+  no_step Close rule.State s b m = let a = does (Closed Done false) (may_as s (Does (Closed Done false)) m.tells m.allowed) in clash (is_closed c k) b a
   no_step step r s b m = b
 
 -- ---- where none is broken
@@ -119,13 +119,13 @@ module _ (x : Setup) (May : ByteStep → Type 0) (c : Config) (k : List EndEvent
 module _ (x : Setup) (May : ByteStep → Type 0) (c : Config) (k : List EndEvent) (now : ℕ) (in_time : moment k ≤ now)
     (may : (s : EndEvent) → IsOwn s → MayDo x.limits (sizes_of x.wire) c k s → May (Does s)) where
   some_step : (step : ToldStep) → ((r : Rule) → Breaks r x May c k now step → ⊥) → ((s : ByteStep) → Makes x May c k now step s → ⊥) → ⊥
-  some_step (Attach l) broken made = broken rule.Link (λ m. made (Does (Attached l now)) (record { told = refl; allowed = m }))
+  some_step (Attach l) broken made = broken rule.Link (λ m. made (Does (Attached l now)) (record { tells = refl; allowed = m }))
   some_step Detach broken made = go (present_link k) refl
     where
       go : (o : Option ℕ) → present_link k ≡ o → ⊥
       go None e = broken rule.Link e
-      go (Some l) e = made (Does (Detached now)) (record { told = refl; allowed = may (Detached now) tt (l, e, in_time) })
-  some_step (Feed piece) broken made = broken rule.Bytes (λ m. made (Bytes piece) (record { told = refl; allowed = m }))
+      go (Some l) e = made (Does (Detached now)) (record { tells = refl; allowed = may (Detached now) tt (l, e, in_time) })
+  some_step (Feed piece) broken made = broken rule.Bytes (λ m. made (Bytes piece) (record { tells = refl; allowed = m }))
   some_step (Lend bytes) broken made = broken rule.Due (go (due c k) refl)
     where
       go : (o : Option LinkFrame) → due c k ≡ o → option_map (x.wire.spell (codec_of c k)) (due c k) ≡ Some bytes → ⊥
@@ -133,21 +133,21 @@ module _ (x : Setup) (May : ByteStep → Type 0) (c : Config) (k : List EndEvent
       go (Some f) e h =
           let z : Some (x.wire.spell (codec_of c k) f) ≡ Some bytes = sym (ap (option_map (x.wire.spell (codec_of c k))) e) ∙ h in
           let y : x.wire.spell (codec_of c k) f ≡ bytes = cc in
-          made (Does (Lent f)) (record { told = (f, (refl, y)); allowed = may (Lent f) tt e })
-  some_step (Send m) broken made = broken rule.Room (λ a. made (Does (Sent m)) (record { told = refl; allowed = a }))
-  some_step (Take told) broken made = broken rule.Took (λ got e w. made (Does (Took got)) (record { told = (got, (refl, w)); allowed = may (Took got) tt e }))
+          made (Does (Lent f)) (record { tells = (f, (refl, y)); allowed = may (Lent f) tt e })
+  some_step (Send m) broken made = broken rule.Room (λ a. made (Does (Sent m)) (record { tells = refl; allowed = a }))
+  some_step (Take words) broken made = broken rule.Took (λ got e w. made (Does (Took got)) (record { tells = (got, (refl, w)); allowed = may (Took got) tt e }))
   some_step (Tick later) broken made = ⊎_elim (λ h. in_order h.1 (is_silence c later k) refl) (λ h. broken rule.State h.1) (leb_tells now later)
     where
       in_order : now ≤ later → (b : Bool) → is_silence c later k ≡ b → ⊥
       in_order less true e = let low : moment k ≤ later = omega arith in
-          made (Does (Silenced later)) (record { told = (less, inr refl); allowed = may (Silenced later) tt (e, low) })
+          made (Does (Silenced later)) (record { tells = (less, inr refl); allowed = may (Silenced later) tt (e, low) })
       in_order less false e = let low : moment k ≤ later = omega arith in
-          made (Does (Ticked later)) (record { told = (less, inl refl); allowed = may (Ticked later) tt (e, low) })
+          made (Does (Ticked later)) (record { tells = (less, inl refl); allowed = may (Ticked later) tt (e, low) })
   some_step Close broken made = go (is_closed c k) refl
     where
       go : (b : Bool) → is_closed c k ≡ b → ⊥
       go true e = broken rule.State e
-      go false e = made (Does (Closed Done false)) (record { told = refl; allowed = may (Closed Done false) tt e })
+      go false e = made (Does (Closed Done false)) (record { tells = refl; allowed = may (Closed Done false) tt e })
 
   -- where no rule is the first that is broken, none is
   none_below : (step : ToldStep) → ((r : Rule) → IsBrokenBy x May c k now step r → ⊥) → (n : ℕ) (q : Rule) → rank q < n → Breaks q x May c k now step → ⊥

@@ -13,9 +13,9 @@ use Rattle.hd_trace.specs.Traces.{Setup, clock, clock_after, steps_of, frames_be
 use Rattle.hd_trace.specs.Breaking.{BreaksWorld}
 use Rattle.hd_trace.specs.Laws.{HasNoFault, bare_step, bare_events, IsToldWorld, ToldIsWorld, HasOneVerdict}
 use Rattle.hd_trace.proofs.Steps.{IsOwn, one_step, no_step, step_or_rule, one_rule}
-use Rattle.hd_trace.proofs.Told as told
-use Rattle.hd_trace.proofs.Told.{MovesClock, moves_clock}
-use Rattle.hd_trace.proofs.Verdicts as verdicts
+use Rattle.hd_trace.proofs.AfterLine as after_line
+use Rattle.hd_trace.proofs.AfterLine.{MovesClock, moves_clock}
+use Rattle.hd_trace.proofs.OneVerdict as verdicts
 
 -- ---- what may come next at a side
 
@@ -76,7 +76,7 @@ with_client : (x : Setup) (v : List (Event ByteStep)) (now : ℕ) (step : ToldSt
     → IsToldWorld x (clock_after step now) (ByClient s ∷ v)
 with_client x v now step s m i =
     let moves = moved (latest (bare_events v)) now (clock_after step now) (bare_step s) i.clock_is
-    (moves_clock x (config Client x.terms) (frames_beside x Client v) now step s m.told) in
+    (moves_clock x (config Client x.terms) (frames_beside x Client v) now step s m.tells) in
     record {
       is_world = (i.is_world, m.allowed);
       on_one_clock = (i.on_one_clock, moves.0);
@@ -86,18 +86,18 @@ with_client x v now step s m i =
     }
   where
     time : (side : Side) → moment (frames_beside x side (ByClient s ∷ v)) ≤ clock_after step now
-    time Client = told.in_time x (config Client x.terms) (client_of v) now step s m.told (i.in_time Client)
-    time Server = through (moment (frames_beside x Server v)) now (clock_after step now) (i.in_time Server) (told.clock_rises x (config Client x.terms) (client_of v) now step s m.told)
+    time Client = after_line.in_time x (config Client x.terms) (client_of v) now step s m.tells (i.in_time Client)
+    time Server = through (moment (frames_beside x Server v)) now (clock_after step now) (i.in_time Server) (after_line.clock_rises x (config Client x.terms) (client_of v) now step s m.tells)
 
     fault : (side : Side) → HasNoFault (frames_beside x side (ByClient s ∷ v))
-    fault Client = told.faultless x (config Client x.terms) (client_of v) now step s m.told (i.faultless Client)
+    fault Client = after_line.faultless x (config Client x.terms) (client_of v) now step s m.tells (i.faultless Client)
     fault Server = i.faultless Server
 
 with_server : (x : Setup) (v : List (Event ByteStep)) (now : ℕ) (step : ToldStep) (s : ByteStep) → MakesAt x Server v now step s → IsToldWorld x now v
     → IsToldWorld x (clock_after step now) (ByServer s ∷ v)
 with_server x v now step s m i =
     let moves = moved (latest (bare_events v)) now (clock_after step now) (bare_step s) i.clock_is
-    (moves_clock x (config Server x.terms) (frames_beside x Server v) now step s m.told) in
+    (moves_clock x (config Server x.terms) (frames_beside x Server v) now step s m.tells) in
     record {
       is_world = (i.is_world, m.allowed);
       on_one_clock = (i.on_one_clock, moves.0);
@@ -107,12 +107,12 @@ with_server x v now step s m i =
     }
   where
     time : (side : Side) → moment (frames_beside x side (ByServer s ∷ v)) ≤ clock_after step now
-    time Client = through (moment (frames_beside x Client v)) now (clock_after step now) (i.in_time Client) (told.clock_rises x (config Server x.terms) (server_of v) now step s m.told)
-    time Server = told.in_time x (config Server x.terms) (server_of v) now step s m.told (i.in_time Server)
+    time Client = through (moment (frames_beside x Client v)) now (clock_after step now) (i.in_time Client) (after_line.clock_rises x (config Server x.terms) (server_of v) now step s m.tells)
+    time Server = after_line.in_time x (config Server x.terms) (server_of v) now step s m.tells (i.in_time Server)
 
     fault : (side : Side) → HasNoFault (frames_beside x side (ByServer s ∷ v))
     fault Client = i.faultless Client
-    fault Server = told.faultless x (config Server x.terms) (server_of v) now step s m.told (i.faultless Server)
+    fault Server = after_line.faultless x (config Server x.terms) (server_of v) now step s m.tells (i.faultless Server)
 
 goes_on : (x : Setup) (side : Side) (v : List (Event ByteStep)) (now : ℕ) (step : ToldStep) (s : ByteStep) → MakesAt x side v now step s → IsToldWorld x now v
     → IsToldWorld x (clock_after step now) (by side s ∷ v)
@@ -123,8 +123,8 @@ begins : (x : Setup) → IsToldWorld x 0 []
 begins x = record { is_world = refl; on_one_clock = tt; clock_is = refl; in_time = time; faultless = fault }
   where
     time : (side : Side) → moment (frames_beside x side []) ≤ 0
-    time Client = told.stays 0
-    time Server = told.stays 0
+    time Client = after_line.stays 0
+    time Server = after_line.stays 0
 
     fault : (side : Side) → HasNoFault (frames_beside x side [])
     fault Client = tt

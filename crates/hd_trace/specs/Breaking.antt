@@ -24,16 +24,16 @@ Breaks rule.Link x May c k now (Attach l) = May (Does (Attached l now)) → ⊥
 Breaks rule.Link x May c k now Detach = present_link k ≡ None
 Breaks rule.Link x May c k now (Feed piece) = present_link k ≡ None
 Breaks rule.Link x May c k now (Lend bytes) = present_link k ≡ None
-Breaks rule.Link x May c k now (Take told) = present_link k ≡ None
+Breaks rule.Link x May c k now (Take words) = present_link k ≡ None
 Breaks rule.State x May c k now (Feed piece) = is_closed c k ≡ true
 Breaks rule.State x May c k now (Send m) = (is_closed c k ≡ true) ⊎ (is_shaken k ≡ false)
-Breaks rule.State x May c k now (Take told) = is_closed c k ≡ true
+Breaks rule.State x May c k now (Take words) = is_closed c k ≡ true
 Breaks rule.State x May c k now (Tick later) = later < now
 Breaks rule.State x May c k now Close = is_closed c k ≡ true
 Breaks rule.Bytes x May c k now (Feed piece) = May (Bytes piece) → ⊥
 Breaks rule.Due x May c k now (Lend bytes) = option_map (x.wire.spell (codec_of c k)) (due c k) ≡ Some bytes → ⊥
-Breaks rule.Took x May c k now (Take told) = (got : Got) → processes c k ≡ Some (Took got)
-    → x.words (suc (length (processed_messages k))) got ≡ told → ⊥
+Breaks rule.Took x May c k now (Take words) = (got : Got) → processes c k ≡ Some (Took got)
+    → x.words (suc (length (processed_messages k))) got ≡ words → ⊥
 Breaks rule.Room x May c k now (Send m) = May (Does (Sent m)) → ⊥
 Breaks r x May c k now step = ⊥
 
@@ -65,16 +65,16 @@ BreaksHistory x side before step h r = IsBrokenBy x (MayAlone x side h) (config 
 abbrev pub number_after : {L : Type 0} → List L → ℕ
 number_after before = suc (suc (length before))
 
--- the lines before the one of this number tell something of T, which that line breaks off by the rule
+-- the lines before the one of this number tell a session, of one end or two, which that line breaks off by the rule
 pub record BreaksOffBy {L T : Type 0} (Tell : List L → T → Type 0) (Breaking : List L → L → T → Rule → Type 0) (lines : List L) (number : ℕ) (r : Rule) : Type 0 where
   pub before : List L
   pub line : L
   pub after : List L
-  pub told : T
+  pub session : T
   pub lines_are : lines ≡ after ++ line ∷ before
   pub number_is : number ≡ number_after before
-  pub tells : Tell before told
-  pub breaks : Breaking before line told r
+  pub tells : Tell before session
+  pub breaks : Breaking before line session r
 
 -- a world breaks off there
 abbrev pub BreaksOff : Setup → List TraceLine → ℕ → Rule → Type 0

@@ -49,7 +49,7 @@ abbrev pub sequence_by : Marks → List Message → Option LinkFrame
 sequence_by m sent = if not m.three && (is_some (next_by m sent) && not (is_this (place_by m) m.said)) then Some (Sequence (place_by m) None) else None
 
 abbrev pub ack_by : Marks → Option LinkFrame
-ack_by m = if (m.resumable && not m.closed) && nat_lt m.told m.processed then Some (Ack m.processed) else None
+ack_by m = if (m.resumable && not m.closed) && nat_lt m.reported m.processed then Some (Ack m.processed) else None
 
 -- the next message, where this link may have it
 abbrev pub message_by : Marks → List Message → ℕ → Option LinkFrame

@@ -76,11 +76,11 @@ ToldIsHistory = (x : Setup) (side : Side) (steps : List ToldStep) (h : List Byte
 
 -- ---- one verdict
 
--- Lines that tell something of T don't break off; those that break off do so at one line by one rule; and it can't be that they do neither
+-- Lines that tell a session don't break off; those that break off do so at one line by one rule; and it can't be that they do neither
 pub record HasOneVerdict {L T : Type 0} (Tell : List L → T → Type 0) (Breaking : List L → L → T → Rule → Type 0) (lines : List L) : Type 0 where
-  pub apart : (told : T) (n : ℕ) (r : Rule) → Tell lines told → BreaksOffBy Tell Breaking lines n r → ⊥
+  pub apart : (session : T) (n : ℕ) (r : Rule) → Tell lines session → BreaksOffBy Tell Breaking lines n r → ⊥
   pub once : (m n : ℕ) (q r : Rule) → BreaksOffBy Tell Breaking lines m q → BreaksOffBy Tell Breaking lines n r → (m ≡ n) × (q ≡ r)
-  pub some : ((told : T) → Tell lines told → ⊥) → ((n : ℕ) (r : Rule) → BreaksOffBy Tell Breaking lines n r → ⊥) → ⊥
+  pub some : ((session : T) → Tell lines session → ⊥) → ((n : ℕ) (r : Rule) → BreaksOffBy Tell Breaking lines n r → ⊥) → ⊥
 
 -- so it is of each trace of two ends
 abbrev pub OneVerdict : Type 0

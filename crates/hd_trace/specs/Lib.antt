@@ -7,6 +7,7 @@ pub mod Verdicts
 pub mod Marks
 pub mod ByMarks
 pub mod MarkLaws
+pub mod Ticks
 pub mod Owed
 pub mod Given
 pub mod ByNumbers

@@ -1,5 +1,5 @@
 -- What an auditor keeps of one end: numbers that are read off its history, and what each step makes of them.
--- Where the end said or read whole frames of its link, what they come to stands here: whether there are any, the next number, what they told, and
+-- Where the end said or read whole frames of its link, what they come to stands here: whether there are any, the next number, what they reported, and
 -- whether a Close was among them. What an end sent and was fed isn't in it.
 use Rattle.std.specs.Prelude.{ℕ, suc, ◌+◌, max, Bool, true, false, ◌&&◌, ◌||◌, ◌==◌, nat_le, List, [], ◌∷◌, length, Option, Some, None, if◌then◌else◌}
 use Rattle.hd_delivery.specs.declared.vocabulary.Got.{Got}
@@ -51,7 +51,7 @@ marks_of c k = record {
   furthest = most_lent k;
   opened = has_frames (lent_on (present_link k) k);
   said = number (lent_on (present_link k) k);
-  told = most_told (lent_on (present_link k) k);
+  reported = most_told (lent_on (present_link k) k);
   parted = has_close (lent_on (present_link k) k);
   next = number (read_on (present_link k) k);
   resumed = is_resumed k;
@@ -75,7 +75,7 @@ attached l now m = record m {
   written = 0;
   opened = false;
   said = None;
-  told = 0;
+  reported = 0;
   parted = false;
   next = None;
   resumed = false;
@@ -92,7 +92,7 @@ left now m = record m {
   closed = (if m.resumable then m.closed else true);
   opened = false;
   said = None;
-  told = 0;
+  reported = 0;
   parted = false;
   next = None;
   moment = max now m.moment;
@@ -108,7 +108,7 @@ lent_message m = record m { opened = true; said = one_more m.said; written = pla
 
 -- it said another frame
 abbrev pub lent_control : LinkFrame → Marks → Marks
-lent_control f m = record m { opened = true; said = count m.said f; told = max m.told (told_count f); parted = (m.parted || has_close (f ∷ [])); quiet = false; wrote = m.moment }
+lent_control f m = record m { opened = true; said = count m.said f; reported = max m.reported (told_count f); parted = (m.parted || has_close (f ∷ [])); quiet = false; wrote = m.moment }
 
 -- it said this frame
 abbrev pub lent : LinkFrame → Marks → Marks

@@ -51,13 +51,13 @@ Tells x c k now Detach s = s ≡ Does (Detached now)
 Tells x c k now (Feed piece) s = s ≡ Bytes piece
 Tells x c k now (Lend bytes) s = (f : LinkFrame) × ((s ≡ Does (Lent f)) × (x.wire.spell (codec_of c k) f ≡ bytes))
 Tells x c k now (Send m) s = s ≡ Does (Sent m)
-Tells x c k now (Take told) s = (got : Got) × ((s ≡ Does (Took got)) × (x.words (suc (length (processed_messages k))) got ≡ told))
+Tells x c k now (Take words) s = (got : Got) × ((s ≡ Does (Took got)) × (x.words (suc (length (processed_messages k))) got ≡ words))
 Tells x c k now (Tick later) s = (now ≤ later) × ((s ≡ Does (Ticked later)) ⊎ (s ≡ Does (Silenced later)))
 Tells x c k now Close s = s ≡ Does (Closed Done false)
 
 -- it tells this one, which may come next by these rules
 pub record Makes (x : Setup) (May : ByteStep → Type 0) (c : Config) (k : List EndEvent) (now : ℕ) (step : ToldStep) (s : ByteStep) : Type 0 where
-  pub told : Tells x c k now step s
+  pub tells : Tells x c k now step s
   pub allowed : May s
 
 -- ---- two ends

@@ -1,7 +1,7 @@
 //! Traces of sessions, in definitions: what the lines of a trace tell, which of them is the first that can't be, and why; and what there is to
 //! keep of one end so that each line is judged by numbers.
 //!
-//! A trace is a session written down, line by line: what each end was fed, said, took and was told. It tells a *world* of two ends, of which
+//! A trace is a session written down, line by line: what each end was fed, said, took and was handed. It tells a *world* of two ends, of which
 //! `hd_delivery` proves that each message is processed once and in order; or it breaks off at one line, by one rule. The same is said of the lines
 //! of one end alone, which tell a history that this end can make by itself, whatever is on the other side of its links.
 //!
@@ -45,13 +45,16 @@ pub use by_numbers::{
 };
 pub use given::Given;
 pub use laws::{
-    alone_agrees, due_is_marked, lines_tell_one_world, marks_follow, one_verdict,
-    one_verdict_alone, records_tell, records_tell_alone, steps_tell_one_history, takes_are_marked,
-    told_is_delivered, told_is_history, told_is_recorded, told_is_recorded_alone, told_is_world,
-    verdict_alone_is_one, verdict_is_one,
+    alone_agrees, due_is_marked, lines_tell_one_world, marks_follow, off_link_is_enough,
+    one_verdict, one_verdict_alone, records_tell, records_tell_alone, steps_tell_one_history,
+    takes_are_marked, ticks_leave_no_trace, told_is_delivered, told_is_history, told_is_recorded,
+    told_is_recorded_alone, told_is_world, verdict_alone_is_one, verdict_is_one,
 };
 pub use marks::{Farewell, Marks};
 pub use owed::Owed;
 pub use trace::{Rule, ToldStep, TraceLine};
 pub use verdict::{Counts, Verdict, VerdictAlone};
-pub use worked::{a_session, alone, bytes, first_lines, frames, links, marks_of_two, room, states};
+pub use worked::{
+    a_session, alone, bytes, first_lines, frames, links, marks_of_two, plain, room, states,
+    verdicts, versions,
+};

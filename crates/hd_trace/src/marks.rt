@@ -38,7 +38,7 @@ pub struct Marks {
     pub sent: u64,
     /// How many messages of the other end it handed out.
     pub processed: u64,
-    /// How many of its messages the other end told to have processed.
+    /// How many of its messages the other end reported as processed.
     pub acked: u64,
     /// The greatest place of a message that it said on its link.
     pub written: u64,
@@ -48,8 +48,8 @@ pub struct Marks {
     pub opened: bool,
     /// The number of the next message that it says on its link, as the other end counts.
     pub said: Option<u64>,
-    /// The most that it told on its link to have processed.
-    pub told: u64,
+    /// The most that it reported on its link: how many messages of the other end were processed.
+    pub reported: u64,
     /// Whether it said a Close on its link.
     pub parted: bool,
     /// The number of the next message that it reads on its link, by what it read there.
@@ -78,7 +78,7 @@ impl Marks {
             written: 0,
             opened: false,
             said: None,
-            told: 0,
+            reported: 0,
             parted: false,
             next: None,
             resumed: false,
@@ -100,7 +100,7 @@ impl Marks {
             closed,
             opened: false,
             said: None,
-            told: 0,
+            reported: 0,
             parted: false,
             next: None,
             moment: self.moment.max(now),

@@ -101,7 +101,7 @@ impl Marks {
     fn ack(self) -> Option<Owed>
         ensures { (c : Config) (next : Option Message) → IsOwed c next result (ack_by self) }
     {
-        if self.resumable && !self.closed && self.told < self.processed {
+        if self.resumable && !self.closed && self.reported < self.processed {
             return Some(Owed::Ack(self.processed));
         }
         None

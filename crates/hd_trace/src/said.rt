@@ -45,11 +45,11 @@ impl Marks {
         }
     }
 
-    fn lend_control(self, said: Option<u64>, told: u64, parted: bool) -> Marks
+    fn lend_control(self, said: Option<u64>, reported: u64, parted: bool) -> Marks
         ensures { result ≡ record self {
           opened = true;
           said = said;
-          told = max self.told told;
+          reported = max self.reported reported;
           parted = (self.parted || parted);
           quiet = false;
           wrote = self.moment;
@@ -58,7 +58,7 @@ impl Marks {
         Marks {
             opened: true,
             said,
-            told: self.told.max(told),
+            reported: self.reported.max(reported),
             parted: self.parted || parted,
             quiet: false,
             wrote: self.moment,

@@ -1,17 +1,21 @@
 //! Worked traces, of two ends and of one, which the checker computes.
 
-ghost use Rattle.std.specs.Prelude.{◌≡◌, ◌++◌, Some, [], ◌∷◌};
+ghost use Rattle.std.specs.Prelude.{◌≡◌, ◌++◌, true, false, Some, None, [], ◌∷◌};
 ghost use Rattle.hd_delivery.specs.declared.vocabulary.Got.TheVariants as gives;
+ghost use Rattle.hd_delivery.specs.declared.vocabulary.Got.TheVariants.{Resumed};
 ghost use Rattle.hd_delivery.specs.declared.vocabulary.Side.TheVariants.{Client, Server};
-ghost use Rattle.hd_delivery.specs.Histories.{Attached, Silenced, Took};
+ghost use Rattle.hd_delivery.specs.Histories.{Attached, Lent, Sent, Silenced, Took};
+ghost use Rattle.hd_delivery.specs.Frames.{Ack, Numbered, Sequence};
 ghost use Rattle.hd_delivery.specs.Bytes.{Bytes, Does};
-ghost use Rattle.hd_delivery.specs.Examples.{a, limits_of, usual};
-ghost use Rattle.hd_delivery.specs.ExamplesOverBytes.{acknowledged_over_bytes, bytewise, closed_over_bytes, three_said, unread_nine};
+ghost use Rattle.hd_delivery.specs.Examples.{a, b, limits_of, usual};
+ghost use Rattle.hd_delivery.specs.ExamplesOverBytes.{acknowledged_over_bytes, bytewise, client, closed_over_bytes, three_said, unread_nine};
 ghost use Rattle.hd_trace.specs.declared.trace.Rule.TheVariants as rule;
 ghost use Rattle.hd_trace.specs.declared.trace.ToldStep.TheVariants as tells;
-ghost use Rattle.hd_trace.specs.Examples.{AreBroken, BreaksAfter, BreaksAlone, IsTold, MayComeAfter, MayComeAlone, acknowledged_lines, attached, by_client, by_server, client_on_five, closed_unread, marks_at, requested, server_on_five, silent, ticked, told_lines};
+ghost use Rattle.hd_trace.specs.declared.verdict.Verdict.TheVariants as verdict;
+ghost use Rattle.hd_trace.specs.declared.verdict.VerdictAlone.TheVariants as alone;
+ghost use Rattle.hd_trace.specs.Examples.{AreBroken, BreaksAfter, BreaksAlone, BreaksFrom, ComesTo, ComesToAlone, IsTold, MayComeAfter, MayComeAlone, MayComeFrom, acknowledged_lines, again_at, attached, by_client, by_server, client_on_five, closed_unread, closed_with_allow, counts, lost, lost_at, marks_at, processed_at, requested, resuming, server_lines, server_on_five, setup_at, silent, ticked, told_lines, unread_lines};
 
-use crate::laws::records_tell;
+use crate::laws::{records_tell, records_tell_alone};
 
 /// A session, line by line: a message is said, processed and acknowledged. What it tells is a world.
 pub fn a_session()
@@ -20,6 +24,7 @@ pub fn a_session()
     ensures silent { told_lines silent ≡
         by_client (tells.Attach 0) ∷ by_client (tells.Lend (1 ∷ 2 ∷ 0 ∷ 0 ∷ [])) ∷
         by_client (tells.Tick 30000) ∷ by_server (tells.Attach 0) ∷ [] }
+    ensures untold { told_lines closed_with_allow ≡ by_client (tells.Attach 0) ∷ [] }
 {
     hd_delivery::worked_over_bytes();
     records_tell();
@@ -36,8 +41,27 @@ pub fn first_lines()
         by_client tells.Detach ∷ []) 3 rule.Due }
 {}
 
-/// Links: those that an end may not begin, and steps that need one.
+/// What lines come to: both ends are still, or an Ack wasn't taken yet; a trace without a line, one that breaks off, and one of the server alone.
+pub fn verdicts()
+    ensures still { ComesTo (acknowledged_lines (tells.Send a))
+        (verdict.World (counts 1 0) (counts 0 1) true) }
+    ensures unread { ComesTo (unread_lines (tells.Send a))
+        (verdict.World (counts 1 0) (counts 0 1) false) }
+    ensures none { ComesTo [] (verdict.World (counts 0 0) (counts 0 0) false) }
+    ensures breaks { ComesTo (by_server (tells.Attach 0) ∷ []) (verdict.Breaks 2 rule.Link) }
+    ensures alone { ComesToAlone Server server_lines (alone.History (counts 0 1)) }
+{
+    hd_delivery::worked_over_bytes();
+    hd_delivery::worlds_are_histories();
+    records_tell();
+    records_tell_alone();
+    a_session();
+    first_lines();
+}
+
+/// Links: those that an end may not begin, and steps that need one, also of a closed end.
 pub fn links()
+    ensures closed_and_lost { BreaksAfter usual lost Client (tells.Feed []) rule.Link }
     ensures unknown { BreaksAfter usual acknowledged_over_bytes Server (tells.Attach 1) rule.Link }
     ensures twice { BreaksAfter usual acknowledged_over_bytes Server (tells.Attach 0) rule.Link }
     ensures lower { BreaksAfter usual acknowledged_over_bytes Client (tells.Attach 0) rule.Link }
@@ -94,6 +118,43 @@ pub fn room()
     ensures frame { BreaksAfter (limits_of 3 1024 100000) three_said Client (tells.Send a) rule.Room }
 {}
 
+/// Versions: an Ack at version 2 alone; how a later link is opened at versions 2 and 3; and when a message comes again there.
+pub fn versions()
+    ensures acked { MayComeFrom (setup_at usual 2 true) (processed_at 2) Server
+        (tells.Lend (4 ∷ 1 ∷ 0 ∷ 0 ∷ [])) (Does (Lent (Ack 1))) }
+    ensures unacked { BreaksFrom (setup_at usual 1 true) (processed_at 1) Server
+        (tells.Lend (4 ∷ 1 ∷ 0 ∷ 0 ∷ [])) rule.Due }
+    ensures opening { MayComeFrom (setup_at usual 2 true) (again_at 2) Client
+        (tells.Lend (5 ∷ 1 ∷ 0 ∷ 0 ∷ [])) (Does (Lent (Sequence 1 None))) }
+    ensures opening_of_three { MayComeFrom (setup_at usual 3 true) (again_at 3) Client
+        (tells.Lend (5 ∷ 1 ∷ 1 ∷ 0 ∷ [])) (Does (Lent (Sequence 1 (Some 0)))) }
+    ensures uncounted { BreaksFrom (setup_at usual 3 true) (again_at 3) Client
+        (tells.Lend (5 ∷ 1 ∷ 0 ∷ 0 ∷ [])) rule.Due }
+    ensures again { MayComeFrom (setup_at usual 2 true)
+        (again_at 2 ++ client (Does (Lent (Sequence 1 None)) ∷ [])) Client
+        (tells.Lend (3 ∷ 97 ∷ 0 ∷ 0 ∷ [])) (Does (Lent (Numbered a))) }
+    ensures waits { BreaksFrom (setup_at usual 3 true) resuming Client
+        (tells.Lend (3 ∷ 97 ∷ 0 ∷ 0 ∷ [])) rule.Due }
+    ensures resumed { MayComeFrom (setup_at usual 3 true) resuming Client
+        (tells.Take (5 ∷ 1 ∷ 0 ∷ [])) (Does (Took (Resumed 1 0))) }
+    ensures again_at_three { MayComeFrom (setup_at usual 3 true)
+        (resuming ++ client (Does (Took (Resumed 1 0)) ∷ [])) Client
+        (tells.Lend (3 ∷ 97 ∷ 0 ∷ 0 ∷ [])) (Does (Lent (Numbered a))) }
+{}
+
+/// A plain connection, as one of version 1 is: it ends with its link, and holds no message that was said.
+pub fn plain()
+    ensures kept { MayComeFrom (setup_at usual 2 true) (lost_at 2) Client (tells.Attach 1)
+        (Does (Attached 1 0)) }
+    ensures lost { BreaksFrom (setup_at usual 2 false) (lost_at 2) Client (tells.Attach 1) rule.Link }
+    ensures lost_at_one { BreaksFrom (setup_at usual 1 true) (lost_at 1) Client (tells.Attach 1)
+        rule.Link }
+    ensures held { BreaksFrom (setup_at (limits_of 32768 1 100000) 2 true) (processed_at 2) Client
+        (tells.Send b) rule.Room }
+    ensures room { MayComeFrom (setup_at (limits_of 32768 1 100000) 2 false) (processed_at 2) Client
+        (tells.Send b) (Does (Sent b)) }
+{}
+
 /// One end alone: a server takes whatever link it is given, and any bytes; a client's links rise; all else is as beside another end.
 pub fn alone()
     ensures link { MayComeAlone Server [] (tells.Attach 7) (Does (Attached 7 0)) }
@@ -114,7 +175,7 @@ pub fn marks_of_two()
     ensures acknowledged { (marks_at Client acknowledged_over_bytes).acked ≡ 1 }
     ensures written { (marks_at Client acknowledged_over_bytes).written ≡ 1 }
     ensures said { (marks_at Client acknowledged_over_bytes).said ≡ Some 2 }
-    ensures told { (marks_at Server acknowledged_over_bytes).told ≡ 1 }
+    ensures reported { (marks_at Server acknowledged_over_bytes).reported ≡ 1 }
     ensures next { (marks_at Server bytewise).next ≡ Some 4 }
     ensures processed { (marks_at Server bytewise).processed ≡ 3 }
 {}

@@ -9,4 +9,4 @@ returns-clause-lower c = (
 )
 
 pub returns-clause-fed : goal.returns-clause-fed
-returns-clause-fed c = record { told = refl; allowed = (record { link = 5; at = refl; unclosed = refl; few = omega arith }, tt) }
+returns-clause-fed c = record { tells = refl; allowed = (record { link = 5; at = refl; unclosed = refl; few = omega arith }, tt) }

@@ -33,7 +33,7 @@ module _ (L T : Type 0) (Tell : List L → T → Type 0) (Breaking : List L → 
   not_told zs l ls v w r b t u = let o = back zs (l ∷ ls) w u in ends l ls v o.0 r b t o.1
 
   apart : (ls : List L) (w : T) (n : ℕ) (r : Rule) → Tell ls w → BreaksOffBy Tell Breaking ls n r → ⊥
-  apart ls w n r t b = not_told b.after b.line b.before b.told w r b.breaks b.tells (subst (λ z. Tell z w) b.lines_are t)
+  apart ls w n r t b = not_told b.after b.line b.before b.session w r b.breaks b.tells (subst (λ z. Tell z w) b.lines_are t)
 
   same_rule : (l m : L) (p s : List L) (v w : T) (q r : Rule) → l ≡ m → p ≡ s → Tell p v → Tell s w → Breaking p l v q → Breaking s m w r → q ≡ r
   same_rule l m p s v w q r e f t u a b =
@@ -51,22 +51,22 @@ module _ (L T : Type 0) (Tell : List L → T → Type 0) (Breaking : List L → 
           → (m ≡ n) × (q ≡ r)
       go (inl same) = (
         a.number_is ∙ (ap number_after same.1 ∙ sym b.number_is),
-        same_rule a.line b.line a.before b.before a.told b.told q r same.0 same.1 a.tells b.tells a.breaks b.breaks,
+        same_rule a.line b.line a.before b.before a.session b.session q r same.0 same.1 a.tells b.tells a.breaks b.breaks,
       )
-      go (inr (inl z)) = absurd (not_told z.0 a.line a.before a.told b.told q a.breaks a.tells (subst (λ y. Tell y b.told) z.1 b.tells))
-      go (inr (inr z)) = absurd (not_told z.0 b.line b.before b.told a.told r b.breaks b.tells (subst (λ y. Tell y a.told) z.1 a.tells))
+      go (inr (inl z)) = absurd (not_told z.0 a.line a.before a.session b.session q a.breaks a.tells (subst (λ y. Tell y b.session) z.1 b.tells))
+      go (inr (inr z)) = absurd (not_told z.0 b.line b.before b.session a.session r b.breaks b.tells (subst (λ y. Tell y a.session) z.1 a.tells))
 
   some : (ls : List L) → ((w : T) → Tell ls w → ⊥) → ((n : ℕ) (r : Rule) → BreaksOffBy Tell Breaking ls n r → ⊥) → ⊥
   some [] tells breaks = tells start starts
   some (l ∷ ls) tells breaks = some ls
       (λ w t. goes_on l ls w t
-      (λ r b. breaks (number_after ls) r (record { before = ls; line = l; after = []; told = w; lines_are = refl; number_is = refl; tells = t; breaks = b }))
+      (λ r b. breaks (number_after ls) r (record { before = ls; line = l; after = []; session = w; lines_are = refl; number_is = refl; tells = t; breaks = b }))
       tells)
       (λ n r b. breaks n r (record {
         before = b.before;
         line = b.line;
         after = l ∷ b.after;
-        told = b.told;
+        session = b.session;
         lines_are = ap (λ z. l ∷ z) b.lines_are;
         number_is = b.number_is;
         tells = b.tells;

@@ -25,7 +25,7 @@ module _ (x : Setup) (c : Config) (h : List ByteStep) (now : ℕ) where
   clock_rises (Feed piece) s t = stays now
   clock_rises (Lend bytes) s t = stays now
   clock_rises (Send m) s t = stays now
-  clock_rises (Take told) s t = stays now
+  clock_rises (Take words) s t = stays now
   clock_rises (Tick later) s t = t.0
   clock_rises Close s t = stays now
 
@@ -36,7 +36,7 @@ module _ (x : Setup) (c : Config) (h : List ByteStep) (now : ℕ) where
   in_time (Feed piece) s t low = subst (λ s. moment (in_frames x.wire c (s ∷ h)) ≤ now) (sym t) low
   in_time (Lend bytes) s t low = subst (λ s. moment (in_frames x.wire c (s ∷ h)) ≤ now) (sym t.1.0) low
   in_time (Send m) s t low = subst (λ s. moment (in_frames x.wire c (s ∷ h)) ≤ now) (sym t) low
-  in_time (Take told) s t low = subst (λ s. moment (in_frames x.wire c (s ∷ h)) ≤ now) (sym t.1.0) low
+  in_time (Take words) s t low = subst (λ s. moment (in_frames x.wire c (s ∷ h)) ≤ now) (sym t.1.0) low
   in_time (Tick later) s t low = go t.1
     where
       go : (s ≡ Does (Ticked later)) ⊎ (s ≡ Does (Silenced later)) → moment (in_frames x.wire c (s ∷ h)) ≤ later
@@ -51,7 +51,7 @@ module _ (x : Setup) (c : Config) (h : List ByteStep) (now : ℕ) where
   faultless (Feed piece) s t f = subst (λ s. HasNoFault (in_frames x.wire c (s ∷ h))) (sym t) f
   faultless (Lend bytes) s t f = subst (λ s. HasNoFault (in_frames x.wire c (s ∷ h))) (sym t.1.0) f
   faultless (Send m) s t f = subst (λ s. HasNoFault (in_frames x.wire c (s ∷ h))) (sym t) f
-  faultless (Take told) s t f = subst (λ s. HasNoFault (in_frames x.wire c (s ∷ h))) (sym t.1.0) f
+  faultless (Take words) s t f = subst (λ s. HasNoFault (in_frames x.wire c (s ∷ h))) (sym t.1.0) f
   faultless (Tick later) s t f = go t.1
     where
       go : (s ≡ Does (Ticked later)) ⊎ (s ≡ Does (Silenced later)) → HasNoFault (in_frames x.wire c (s ∷ h))
@@ -75,7 +75,7 @@ moves_clock x c k now Detach s t = subst (λ s. MovesClock now now (bare_step s)
 moves_clock x c k now (Feed piece) s t = subst (λ s. MovesClock now now (bare_step s)) (sym t) (same_clock now)
 moves_clock x c k now (Lend bytes) s t = subst (λ s. MovesClock now now (bare_step s)) (sym t.1.0) (same_clock now)
 moves_clock x c k now (Send m) s t = subst (λ s. MovesClock now now (bare_step s)) (sym t) (same_clock now)
-moves_clock x c k now (Take told) s t = subst (λ s. MovesClock now now (bare_step s)) (sym t.1.0) (same_clock now)
+moves_clock x c k now (Take words) s t = subst (λ s. MovesClock now now (bare_step s)) (sym t.1.0) (same_clock now)
 moves_clock x c k now (Tick later) s t = go t.1
   where
     go : (s ≡ Does (Ticked later)) ⊎ (s ≡ Does (Silenced later)) → MovesClock now later (bare_step s)
