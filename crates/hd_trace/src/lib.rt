@@ -15,16 +15,18 @@
 //!
 //! - `Traces`: what a line tells of an end, and which world the lines of both tell. `Alone`: which history those of one end tell.
 //! - `Breaking`: the six rules, their order, and where a trace breaks off. May, what may come next, is their parameter: of two ends or of one.
-//! - `Recording`: the lines that tell a world, or a history.
+//! - `Verdicts`: what lines come to ([`Verdict`], [`VerdictAlone`]): the counts of what they tell, or where they break off.
+//! - `Recording`: the lines that tell a world, or a history. `Ticks`: what a recorder of one end writes before a link begins or is lost.
 //! - `Marks`, `ByMarks`: what an auditor keeps of an end ([`Marks`]) as a function of its history, what each step makes of it, and what it says of
 //!   the next step. [`Owed`] is what is due, as code names it, and [`Given`] what a frame gives.
-//! - `ByNumbers`: the rules of two ends by marks, sums, and the lines that tell what each end said.
+//! - `ByNumbers`: the rules of two ends by marks, names of links, sums, and the lines that tell what each end said.
 //!
 //! Frames have any way to be written, and what is taken any words: both are parts of a `Setup`, as are the limits and how the two ends are begun.
 //!
 //! Proved (`src/laws.rt`): lines tell one world or history at most, which is one over bytes, on one clock, without faults; else they break off at one
 //! line by one rule; what is recorded tells what it was recorded of, and lines are what is recorded of what they tell; marks follow the steps of a
-//! history, and say what is due and what a frame gives (`src/by_numbers.rt`: what may be fed, what is taken, room and stillness, too).
+//! history, and say what is due and what a frame gives; the ticks that a recorder writes do no harm. By numbers (`src/by_numbers.rt`): which link may
+//! be begun, what may be fed, how much is unread, what is taken, room and stillness.
 //!
 //! The crate doesn't know how a line is spelled, files, nor the code of an end.
 #![tactic(auto)]
