@@ -5,7 +5,7 @@ use Rattle.hd_delivery.specs.Histories.{first_of}
 use Rattle.hd_trace.specs.declared.marks.Marks.{Marks}
 use Rattle.hd_trace.specs.Marks.{left}
 use Rattle.hd_trace.specs.ByMarks.{due_there_by}
-use Rattle.hd_trace.specs.Ticks.{off_link, LeavesNoTrace, TicksLeaveNoTrace, OffLinkIsEnough}
+use Rattle.hd_trace.specs.Ticks.{off_link, HasNoEffect, TicksBeforeLinks, OffLinkIsEnough}
 
 later : (before now moment : ℕ) → before ≤ now → max now (max before moment) ≡ max now moment
 later before now moment low = omega arith
@@ -32,16 +32,16 @@ begun l m closed moment = record m {
 as_before : (m : Marks) → m.resumable ≡ true → (if m.resumable then m.closed else true) ≡ m.closed
 as_before m e = ap (λ b. if b then m.closed else true) e
 
-no_trace : (before now : ℕ) (m : Marks) → before ≤ now → LeavesNoTrace before now m
-no_trace before now m low = record {
+no_effect : (before now : ℕ) (m : Marks) → before ≤ now → HasNoEffect before now m
+no_effect before now m low = record {
   attach = λ l. ap (begun l m m.closed) (later before now m.moment low);
   attach_after_silence = λ l keeps. ap (λ b. begun l m b (max now (max before m.moment))) (as_before m keeps)
       ∙ ap (begun l m m.closed) (later before now m.moment low);
   loss = ap (λ moment. record (off_link (left now m)) { moment = moment }) (later before now m.moment low);
 }
 
-pub leave_no_trace : TicksLeaveNoTrace
-leave_no_trace = record { none = no_trace; silence_is_loss = λ c k now. refl }
+pub before_links : TicksBeforeLinks
+before_links = record { unseen = no_effect; silence_is_loss = λ c k now. refl }
 
 pub is_enough : OffLinkIsEnough
 is_enough m none = record {

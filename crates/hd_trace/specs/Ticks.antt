@@ -11,15 +11,15 @@ use Rattle.hd_trace.specs.ByMarks.{is_silence_by, state_by, MayBeginBy, due_by}
 abbrev pub off_link : Marks → Marks
 off_link m = record m { heard = None; quiet = false }
 
--- A tick that comes no later than a link begins leaves no trace after that, be it a silence or not. One that comes no later than a loss leaves none off the link
-pub record LeavesNoTrace (before now : ℕ) (m : Marks) : Type 0 where
+-- A tick that comes no later than a link begins has no effect after that, be it a silence or not. One that comes no later than a loss has none off the link
+pub record HasNoEffect (before now : ℕ) (m : Marks) : Type 0 where
   pub attach : (l : ℕ) → attached l now (ticked before m) ≡ attached l now m
   pub attach_after_silence : (l : ℕ) → m.resumable ≡ true → attached l now (left before m) ≡ attached l now m
   pub loss : off_link (left now (ticked before m)) ≡ off_link (left now m)
 
--- and one that is a silence is the loss
-pub record TicksLeaveNoTrace : Type 0 where
-  pub none : (before now : ℕ) (m : Marks) → before ≤ now → LeavesNoTrace before now m
+-- so it is, and a tick that is a silence is the loss
+pub record TicksBeforeLinks : Type 0 where
+  pub unseen : (before now : ℕ) (m : Marks) → before ≤ now → HasNoEffect before now m
   pub silence_is_loss : (c : Config) (k : List EndEvent) (now : ℕ) → marks_of c (Silenced now ∷ k) ≡ marks_of c (Detached now ∷ k)
 
 -- of an end without a link all that is asked is said by the marks off the link, and each step that it can make keeps what they say

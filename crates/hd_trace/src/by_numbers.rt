@@ -1,5 +1,5 @@
-//! The rules of two ends by numbers, so that whoever judges a trace keeps no lists of steps, and reads nothing again. No function here does anything: its contract is the
-//! law.
+//! The rules of two ends by numbers, so that whoever judges a trace keeps no lists of steps, and reads nothing again. No function here does anything:
+//! its contract is the law.
 
 ghost use Rattle.hd_trace.specs.ByNumbers.{AttachesAloneByNumbers, AttachesByNumbers, FeedsByNumbers, NextIsFed, RoomByNumbers, StillByNumbers, TakenAreLent, TakesByLines, UnreadByNumbers};
 

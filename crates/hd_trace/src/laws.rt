@@ -1,7 +1,7 @@
 //! What holds of traces, of two ends and of one, and of marks. No function here does anything: its contract is the law.
 
 ghost use Rattle.hd_trace.specs.MarkLaws.{DueIsMarked, MarksFollow, TakesAreMarked};
-ghost use Rattle.hd_trace.specs.Ticks.{OffLinkIsEnough, TicksLeaveNoTrace};
+ghost use Rattle.hd_trace.specs.Ticks.{OffLinkIsEnough, TicksBeforeLinks};
 ghost use Rattle.hd_trace.specs.Verdicts.{VerdictAloneIsOne, VerdictIsOne};
 ghost use Rattle.hd_trace.specs.Laws.{AloneAgrees, LinesTellOneWorld, OneVerdict, OneVerdictAlone, RecordsTell, RecordsTellAlone, StepsTellOneHistory, ToldIsDelivered, ToldIsHistory, ToldIsRecorded, ToldIsRecordedAlone, ToldIsWorld};
 
@@ -105,9 +105,10 @@ pub fn takes_are_marked()
     ensures { TakesAreMarked }
 {}
 
-/// A tick right before a link begins is unseen after that, a silence too; one right before a loss is unseen off the link, and a silence is a loss.
-pub fn ticks_leave_no_trace()
-    ensures { TicksLeaveNoTrace }
+/// A tick right before a link begins has no effect after that, a silence neither; one right before a loss has none off the link, and a silence is a
+/// loss.
+pub fn ticks_before_links()
+    ensures { TicksBeforeLinks }
 {}
 
 /// Of an end without a link, nothing that is asked depends on when its last link was heard, nor on whether it was quiet there.

@@ -49,7 +49,7 @@ pub use given::Given;
 pub use laws::{
     alone_agrees, due_is_marked, lines_tell_one_world, marks_follow, off_link_is_enough,
     one_verdict, one_verdict_alone, records_tell, records_tell_alone, steps_tell_one_history,
-    takes_are_marked, ticks_leave_no_trace, told_is_delivered, told_is_history, told_is_recorded,
+    takes_are_marked, ticks_before_links, told_is_delivered, told_is_history, told_is_recorded,
     told_is_recorded_alone, told_is_world, verdict_alone_is_one, verdict_is_one,
 };
 pub use marks::{Farewell, Marks};
