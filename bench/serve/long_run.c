@@ -27,6 +27,8 @@ enum { CUT = 100, LEAVES = 8000, PEST = 500 };
 enum { TRICKLE = 512, SLOW_ROOM = 4096 };
 // A server keeps so many texts. To be filled it is given so many in a message, and is waited for after so many messages.
 enum { TEXTS_KEPT = 65536, FILLED_AT_ONCE = 100, FILLED_UNHEARD = 50 };
+// A frame of the hub has so many bytes at most, without its separator.
+enum { LONGEST = 32768 };
 static const uint64_t SECOND = 1000000;
 // A token lives for 30 seconds without a link, and a pest has as long to say something: so the server is rid of both within a REST, or twice their time
 // where others need the processors.
@@ -315,9 +317,21 @@ static void hear_message(struct user *user, const char *text, size_t length) {
     fail("user %d was told %.*s", number_of_user(user), (int)length, text);
 }
 
+// A ping as long as a frame may be. The server reserves room for that frame, of which short ones touch the first page, and only touched ones are
+// resident; where a connection comes in place of another, they may have been touched by that one. With a long one each has all of it from the start.
+static void say_longest(const struct user *user) {
+    const char *front = "{\"type\":6,\"padding\":\"", *back = "\"}\x1e";
+    char text[LONGEST + 1];
+    memset(text, 'x', sizeof text);
+    memcpy(text, front, strlen(front));
+    memcpy(text + sizeof text - strlen(back), back, strlen(back));
+    say(user->fd, TEXT, text, sizeof text);
+}
+
 static void hear_shaken(struct user *user, const char *text, size_t length) {
     if (length != 2 || memcmp(text, "{}", 2) != 0) fail("the handshake was answered %.*s", (int)length, text);
     user->stage = JOINING;
+    say_longest(user);
     say_number(user, 1);
 }
 
