@@ -336,25 +336,25 @@ def written(codec, tree):
     return bytes([*length, size]) + body
 
 
-def next_frame(codec, data, at):
+def next_frame(codec, data, at, most=MOST):
     """The frame that begins at a place, and the place behind it: a text is why no frame can come, None that it isn't whole."""
-    return next_record(data, at) if codec == "json" else next_by_length(data, at)
+    return next_record(data, at, most) if codec == "json" else next_by_length(data, at, most)
 
 
-def next_record(data, at):
-    end = data.find(RECORD, at, at + MOST + 1)
+def next_record(data, at, most):
+    end = data.find(RECORD, at, at + most + 1)
     if end < 0:
-        return ("TooLong" if len(data) - at > MOST else None), at
+        return ("TooLong" if len(data) - at > most else None), at
     return data[at:end], end + 1
 
 
-def next_by_length(data, at):
+def next_by_length(data, at, most=MOST):
     size = 0
     for place, byte in enumerate(data[at : at + MOST_LENGTH]):
         size |= (byte & 127) << 7 * place
         if byte < 128:
             begin = at + place + 1
-            if size > MOST:
+            if size > most:
                 return "TooLong", at
             return (data[begin : begin + size], begin + size) if begin + size <= len(data) else (None, at)
     return ("BadLength" if len(data) - at >= MOST_LENGTH else None), at
