@@ -20,7 +20,7 @@ import spoiled_traces
 import trace_model
 from replay_model import spell
 from trace_marks import PING_AFTER, Marks
-from trace_model import OTHER, BadLine, cut, frame_of, words_of
+from trace_model import SILENCE, BadLine, cut, frame_of, words_of
 
 
 class Cannot(Exception):
@@ -141,7 +141,7 @@ class Placed:
 
     def see(self):
         side, kind, told = self.seen[self.at]
-        if kind == "tick": self.now = max(self.now, told)
+        if kind == "tick": self.pass_to(side, told)
         if kind == "fed":
             self.ends[side].coming += told
             self.feed(side)
@@ -149,6 +149,12 @@ class Placed:
         if kind == "detach": self.leave(side)
         if kind == "attach": self.attach(side, told)
         self.at += 1
+
+    def pass_to(self, side, moment):
+        """A moment came. A silence is told as late as can be, as the end may have been given something by then that it hadn't room for here."""
+        marks = self.ends[side].marks
+        self.now = max(self.now, moment)
+        if self.now > self.clock and not (marks.link is not None and marks.heard is not None and self.now >= marks.heard + SILENCE): self.tick(side, self.now)
 
     def lend(self, side, data):
         marks = self.ends[side].marks

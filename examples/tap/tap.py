@@ -1,23 +1,27 @@
 #!/usr/bin/env python3
-"""Stands between clients and a hub server, and writes down what the server's end of each connection was given and said.
+"""Stands between clients and a hub server, and writes down what one end of each connection was given and said.
 
-    tap.py FOLDER [--port N] [--to HOST:PORT] [--resend COUNT BYTES]
+    tap.py FOLDER [--port N] [--to HOST:PORT] [--end server | --end client] [--resend COUNT BYTES]
 
 It listens at 127.0.0.1, on port 8081 if N isn't given, and passes all bytes on to the server, at 127.0.0.1:8080 if no other is given.
 Of each hub connection that comes over WebSockets FOLDER gets a recording, 1.trace, 2.trace and so on, which goes on as the connection
 does on further sockets. Numbers that are there are passed over. Long polling is passed on and not recorded. It ends with ^C. Python 3.9 or later is enough.
 
-A recording is UTF-8. Its first line is `trace CODEC VERSION RECONNECT COUNT BYTES 32768`: what the client asked for, json or pack and the
-version, whether the server granted it to go on over further sockets, on or off, and the server's option `--resend`, which has to be told
-if it isn't 1024 100000. After it comes a line for each thing that was seen, in order:
+A recording is UTF-8, and is that of the server's end if no other is asked for. Its first line is `trace CODEC VERSION RECONNECT COUNT BYTES
+32768`: what the client asked for, json or pack and the version, whether the server granted it to go on over further sockets, on or off, and
+the option `--resend` of the end, which has to be told if it isn't 1024 100000. After it comes a line for each thing that was seen, in order, with
+`c` in place of `s` if it is the client's end:
 
     s tick MS       it is this many milliseconds since the connection's first socket
     s attach K      a socket is up, the connection's K-th from 0
-    s fed HEX       the client has said these bytes, before the server is given them
-    s lent HEX      the server has said this frame, with its framing
+    s fed HEX       the other end has said these bytes, before this one is given them
+    s lent HEX      this end has said this frame, with its framing
     s detach        the socket has ended
 
-A tap sees bytes, and not what the server did: when it processed a message isn't in a recording."""
+A socket begins and ends at the moment of the last tick before that line. An end that was given nothing for 30,000 ms, from the first tick
+after that on, gives up its socket at the next tick by itself, so no `detach` comes after that one.
+
+A tap sees bytes, and not what the end did: when it processed a message isn't in a recording."""
 import argparse
 import asyncio
 import contextlib
@@ -30,49 +34,89 @@ import urllib.parse
 PIECE = 65_536
 SEPARATOR = b"\x1e"
 FRAME = 32_768
+SILENCE = 30_000  # ms
 CODECS = {"json": "json", "messagepack": "pack"}
+ENDS = {"client": "c", "server": "s"}
 DATA = 0, 1, 2  # the WebSocket frames that carry a message, or a part of one
 
 
 class Recording:
-    """Of one connection. Nothing is written until the client has said what it asks for."""
+    """Of one end of one connection. Nothing is written until the client has said what it asks for."""
 
-    def __init__(self, path, reconnect, limits):
-        self.path, self.reconnect, self.limits = path, reconnect, limits
+    def __init__(self, path, side, reconnect, limits):
+        self.path, self.side, self.reconnect, self.limits = path, side, reconnect, limits
         self.began = self.moment = None
-        self.links = 0
-        self.fed, self.said = b"", b""  # what the client has said until its request is whole, and of the server's next frame
-        self.codec, self.answered = None, False
+        self.links, self.is_up = 0, False
+        self.heard = None  # the moment of the first tick since it was last given something, if there was one
+        self.request, self.said = b"", b""  # what the client has said until its request is whole, and of this end's next frame
+        self.codec, self.has_shaken = None, False
         self.waiting = []  # lines, until there is a first one
 
-    def note(self, line):
-        now = int((time.monotonic() - self.began) * 1000)
-        lines = [line] if now == self.moment else [f"s tick {now}", line]
+    def now(self):
+        """In milliseconds since its first socket."""
+        if self.began is None:
+            self.began = time.monotonic()
+        return int((time.monotonic() - self.began) * 1000)
+
+    def tick(self):
+        """Tells the moment, if it is a later one. The end may lose its link by that."""
+        now = self.now()
+        if now == self.moment:
+            return
         self.moment = now
-        self.waiting += lines
+        self.write(f"tick {now}")
+        if self.heard is None:
+            self.heard = now
+        self.is_up = self.is_up and now < self.heard + SILENCE
+
+    def write(self, words):
+        self.waiting.append(f"{self.side} {words}\n")
         if self.codec:
             with open(self.path, "a", encoding="utf-8") as file:
-                file.write("".join(f"{line}\n" for line in self.waiting))
+                file.write("".join(self.waiting))
             self.waiting.clear()
 
     def attach(self):
-        """The number of the new link."""
-        if self.began is None:
-            self.began = time.monotonic()
-        self.said = b""
+        """The number of the new link, which begins at the moment of the last tick."""
+        self.tick()
+        self.write(f"attach {self.links}")
+        self.said, self.is_up, self.heard = b"", True, self.moment
         self.links += 1
-        self.note(f"s attach {self.links - 1}")
         return self.links - 1
 
-    def feed(self, data):
-        if not self.codec:
-            self.fed += data
-            self.begin()
-        self.note(f"s fed {data.hex()}")
+    def detach(self):
+        self.tick()
+        if self.is_up:
+            self.write("detach")
+        self.is_up = False
 
-    def begin(self):
-        """Writes the first line, once the request is whole."""
-        request, end, _ = self.fed.partition(SEPARATOR)
+    def feed(self, data):
+        """These bytes are on their way to this end."""
+        if self.side == "s":
+            self.ask(data)
+        self.tick()
+        if self.is_up:
+            self.write(f"fed {data.hex()}")
+        self.heard = None
+
+    def lend(self, data):
+        """This end has said these bytes, of which each frame has a line once it is whole."""
+        if self.side == "c":
+            self.ask(data)
+        self.said += data
+        while size := self.size_of_frame():
+            frame, self.said = self.said[:size], self.said[size:]
+            self.has_shaken = True
+            self.tick()
+            if self.is_up:
+                self.write(f"lent {frame.hex()}")
+
+    def ask(self, data):
+        """Writes the first line, once the client's request is whole."""
+        if self.codec:
+            return
+        self.request += data
+        request, end, _ = self.request.partition(SEPARATOR)
         if not end:
             return
         with contextlib.suppress(ValueError, KeyError, TypeError):
@@ -81,16 +125,9 @@ class Recording:
             self.path.write_text(f"trace {codec} {version} {self.reconnect} {' '.join(map(str, self.limits))} {FRAME}\n")
             self.codec = codec
 
-    def lend(self, data):
-        self.said += data
-        while size := self.size_of_frame():
-            frame, self.said = self.said[:size], self.said[size:]
-            self.answered = True
-            self.note(f"s lent {frame.hex()}")
-
     def size_of_frame(self):
         """How many bytes the first frame of what was said has, with its framing. 0 if it isn't whole."""
-        if not self.answered or self.codec != "pack":
+        if not self.has_shaken or self.codec != "pack":
             return self.said.find(SEPARATOR) + 1
         size, shift = 0, 0
         for digits, byte in enumerate(self.said, 1):
@@ -99,9 +136,6 @@ class Recording:
             if byte < 128:
                 return digits + size if len(self.said) >= digits + size else 0
         return 0
-
-    def detach(self):
-        self.note("s detach")
 
 
 class Payloads:
@@ -138,13 +172,13 @@ class Payloads:
 class Tap:
     """All recordings, by the tokens of their connections."""
 
-    def __init__(self, folder, limits):
-        self.folder, self.limits = folder, limits
+    def __init__(self, folder, side, limits):
+        self.folder, self.side, self.limits = folder, side, limits
         self.number, self.recordings, self.granted = 0, {}, set()
 
     def recording(self, token):
         if token not in self.recordings:
-            self.recordings[token] = Recording(self.free_path(), "on" if token in self.granted else "off", self.limits)
+            self.recordings[token] = Recording(self.free_path(), self.side, "on" if token in self.granted else "off", self.limits)
         return self.recordings[token]
 
     def free_path(self):
@@ -172,15 +206,19 @@ class Seen:
     def from_client(self, data):
         if self.link is None:
             self.asked = (self.asked + data)[-PIECE:]
-        elif self.stands():
-            if payload := self.inward.push(data):
-                self.recording.feed(payload)
+        else:
+            self.see_payload(self.inward.push(data), "c")
 
     def from_server(self, data):
         if self.link is None:
             data = self.see_head(data)
-        if self.link is not None and self.stands():
-            self.recording.lend(self.outward.push(data))
+        if self.link is not None:
+            self.see_payload(self.outward.push(data), "s")
+
+    def see_payload(self, payload, speaker):
+        """What one end says on a link, if the other stands on it."""
+        if payload and self.stands():
+            (self.recording.lend if speaker == self.recording.side else self.recording.feed)(payload)
 
     def see_head(self, data):
         """Looks for the reply that begins a WebSocket, behind others. Gives what comes after its head."""
@@ -196,7 +234,7 @@ class Seen:
         return self.replied[upgraded.end() :]
 
     def stands(self):
-        """Whether the server's end stands on this socket, and not on a later one."""
+        """Whether the end stands on this socket, and not on a later one."""
         return self.recording.links == self.link + 1
 
     def ended(self):
@@ -233,16 +271,17 @@ async def listen(tap, port, to):
 
 
 def main():
-    words = argparse.ArgumentParser(description="Records what the server's end of each hub connection is given and says.")
+    words = argparse.ArgumentParser(description="Records what one end of each hub connection is given and says.")
     words.add_argument("folder", type=pathlib.Path)
     words.add_argument("--port", type=int, default=8081)
     words.add_argument("--to", default="127.0.0.1:8080", metavar="HOST:PORT")
+    words.add_argument("--end", choices=ENDS, default="server")
     words.add_argument("--resend", type=int, nargs=2, default=[1024, 100_000], metavar=("COUNT", "BYTES"))
     given = words.parse_args()
     given.folder.mkdir(parents=True, exist_ok=True)
     host, _, port = given.to.rpartition(":")
     with contextlib.suppress(KeyboardInterrupt):
-        asyncio.run(listen(Tap(given.folder, given.resend), given.port, (host, int(port))))
+        asyncio.run(listen(Tap(given.folder, ENDS[given.end], given.resend), given.port, (host, int(port))))
 
 
 if __name__ == "__main__":
