@@ -23,6 +23,11 @@ from trace_marks import PING_AFTER, Marks
 from trace_model import SILENCE, BadLine, cut, frame_of, words_of
 
 
+BYE = "close", None, False
+# Of an end that tells the number of its next message by a Sequence, and never says that message, nobody knows which it is.
+UNSEEN = '{"arguments":[],"target":"unseen","type":1}'
+
+
 class Cannot(Exception):
     """No history says what was seen there: the place among what was seen, and why."""
 
@@ -108,30 +113,37 @@ class Placed:
         """Puts in one more step, so that this frame may become due."""
         marks = self.ends[side].marks
         may_send = marks.is_shaken and not marks.is_closed
-        if frame and frame[0] == "message" and may_send and marks.has_room(frame[1]) and self.could(side, lambda it: it.send(frame[1]), frame):
-            marks.send(frame[1])
-            return self.tell(side, f"sent {frame[1]}")
+        text = frame[1] if frame and frame[0] == "message" else next(iter(self.later_messages(side)), UNSEEN)
+        if frame and frame[0] in ("message", "sequence") and may_send and marks.has_room(text) and self.could(side, lambda it: it.send(text), frame):
+            marks.send(text)
+            return self.tell(side, f"sent {text}")
         later = max(self.now, self.clock, marks.wrote + PING_AFTER)
         if frame == ("ping",) and self.could(side, lambda it: it.tick(later), frame): return self.tick(side, later)
-        if self.may_close(side, frame): return self.close(side)
+        if self.may_close(side, frame): return self.close(side, frame)
         if not self.take(side): raise Cannot(self.at, self.lines)
 
     def may_close(self, side, frame):
         """Whether this frame is due by a close alone: it is a Close, or comes where an end that isn't closed has to say an Ack."""
         marks = self.ends[side].marks
-        if marks.is_closed or frame != ("close", None, False) and (marks.due() or ("none",))[0] != "ack": return False
-        return self.could(side, lambda it: [*map(it.send, self.last_messages(side)), it.close()], frame)
+        if marks.is_closed or frame != BYE and (marks.due() or ("none",))[0] != "ack": return False
+        return self.could(side, lambda it: [*map(it.send, self.later_messages(side)), it.close()], frame)
 
-    def close(self, side):
-        marks = self.ends[side].marks
-        for text in self.last_messages(side):
+    def close(self, side, frame):
+        """Closes the end, once it has taken what came, as far as this frame is due then, and has sent all that it still says."""
+        end = self.ends[side]
+        while end.next_frame() and self.copy().takes_and_may_close(side, frame): self.take(side)
+        marks = end.marks
+        for text in self.later_messages(side):
             marks.send(text)
             self.tell(side, f"sent {text}")
         marks.close()
         self.tell(side, "close")
 
-    def last_messages(self, side):
-        """What a closed end still says on its link, and wasn't told to be sent."""
+    def takes_and_may_close(self, side, frame):
+        return self.take(side) and self.may_close(side, frame)
+
+    def later_messages(self, side):
+        """The messages that the end says from here on, but for those that it was told to be sent."""
         end = self.ends[side]
         if not end.marks.is_shaken: return []
         frames = [end.read(told) for other, kind, told in self.seen[self.at :] if other == side and kind == "lent"]

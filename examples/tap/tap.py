@@ -169,32 +169,6 @@ class Payloads:
         return bytes(byte ^ mask[place % 4] for place, byte in enumerate(payload)) if masked else payload
 
 
-class Tap:
-    """All recordings, by the tokens of their connections."""
-
-    def __init__(self, folder, side, limits):
-        self.folder, self.side, self.limits = folder, side, limits
-        self.number, self.recordings, self.granted = 0, {}, set()
-
-    def recording(self, token):
-        if token not in self.recordings:
-            self.recordings[token] = Recording(self.free_path(), self.side, "on" if token in self.granted else "off", self.limits)
-        return self.recordings[token]
-
-    def free_path(self):
-        """That of a file which isn't there, nor will be another recording's."""
-        self.number += 1
-        while (path := self.folder / f"{self.number}.trace").exists():
-            self.number += 1
-        return path
-
-    def see_reply(self, text):
-        """A reply may be that of a negotiate, with a token, and the grant to go on over further sockets."""
-        token = re.search(rb'"connectionToken":"([^"\\]*)"', text)
-        if token and re.search(rb'"useStatefulReconnect":true', text):
-            self.granted.add(token[1].decode())
-
-
 class Seen:
     """One TCP connection, as far as it was seen."""
 
@@ -242,6 +216,34 @@ class Seen:
             self.recording.detach()
 
 
+class Tap:
+    """All recordings, by the tokens of their connections."""
+
+    socket, kind = Seen, Recording
+
+    def __init__(self, folder, side, limits):
+        self.folder, self.side, self.limits = folder, side, limits
+        self.number, self.recordings, self.granted = 0, {}, set()
+
+    def recording(self, token):
+        if token not in self.recordings:
+            self.recordings[token] = self.kind(self.free_path(), self.side, "on" if token in self.granted else "off", self.limits)
+        return self.recordings[token]
+
+    def free_path(self):
+        """That of a file which isn't there, nor will be another recording's."""
+        self.number += 1
+        while (path := self.folder / f"{self.number}.trace").exists():
+            self.number += 1
+        return path
+
+    def see_reply(self, text):
+        """A reply may be that of a negotiate, with a token, and the grant to go on over further sockets."""
+        token = re.search(rb'"connectionToken":"([^"\\]*)"', text)
+        if token and re.search(rb'"useStatefulReconnect":true', text):
+            self.granted.add(token[1].decode())
+
+
 async def pass_on(reader, writer, see):
     """Passes bytes on, after they were seen."""
     with contextlib.suppress(OSError):
@@ -254,17 +256,23 @@ async def pass_on(reader, writer, see):
 
 
 async def listen(tap, port, to):
+    """Begins to listen at a port, and to pass on to a host and a port."""
+
     async def meet(reader, writer):
         try:
             far_reader, far_writer = await asyncio.open_connection(*to)
         except OSError:
             writer.close()
             return
-        seen = Seen(tap)
+        seen = tap.socket(tap)
         await asyncio.gather(pass_on(reader, far_writer, seen.from_client), pass_on(far_reader, writer, seen.from_server))
         seen.ended()
 
-    server = await asyncio.start_server(meet, "127.0.0.1", port)
+    return await asyncio.start_server(meet, "127.0.0.1", port)
+
+
+async def run(tap, port, to):
+    server = await listen(tap, port, to)
     print(f"tap: http://127.0.0.1:{port} to {to[0]}:{to[1]}, recordings in {tap.folder}", flush=True)
     async with server:
         await server.serve_forever()
@@ -281,7 +289,7 @@ def main():
     given.folder.mkdir(parents=True, exist_ok=True)
     host, _, port = given.to.rpartition(":")
     with contextlib.suppress(KeyboardInterrupt):
-        asyncio.run(listen(Tap(given.folder, ENDS[given.end], given.resend), given.port, (host, int(port))))
+        asyncio.run(run(Tap(given.folder, ENDS[given.end], given.resend), given.port, (host, int(port))))
 
 
 if __name__ == "__main__":
