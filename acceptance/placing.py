@@ -113,8 +113,8 @@ class Placed:
         """Puts in one more step, so that this frame may become due."""
         marks = self.ends[side].marks
         may_send = marks.is_shaken and not marks.is_closed
-        text = frame[1] if frame and frame[0] == "message" else next(iter(self.later_messages(side)), UNSEEN)
-        if frame and frame[0] in ("message", "sequence") and may_send and marks.has_room(text) and self.could(side, lambda it: it.send(text), frame):
+        text = self.message_before(side, frame) if may_send else None
+        if text and marks.has_room(text) and self.could(side, lambda it: it.send(text), frame):
             marks.send(text)
             return self.tell(side, f"sent {text}")
         later = max(self.now, self.clock, marks.wrote + PING_AFTER)
@@ -122,10 +122,16 @@ class Placed:
         if self.may_close(side, frame): return self.close(side, frame)
         if not self.take(side): raise Cannot(self.at, self.lines)
 
+    def message_before(self, side, frame):
+        """What has to be sent before this frame is due, if that may be: it, or what comes after it if that is a Sequence."""
+        if frame and frame[0] == "sequence": return next(iter(self.later_messages(side)), UNSEEN)
+        return frame[1] if frame and frame[0] == "message" else None
+
     def may_close(self, side, frame):
         """Whether this frame is due by a close alone: it is a Close, or comes where an end that isn't closed has to say an Ack."""
         marks = self.ends[side].marks
-        if marks.is_closed or frame != BYE and (marks.due() or ("none",))[0] != "ack": return False
+        comes_before_ack = (marks.due() or [None])[0] == "ack" and frame and frame[0] != "ack"
+        if marks.is_closed or frame != BYE and not comes_before_ack: return False
         return self.could(side, lambda it: [*map(it.send, self.later_messages(side)), it.close()], frame)
 
     def close(self, side, frame):
@@ -209,7 +215,8 @@ def is_unseen(marks, frame):
 
 
 def opening_of(placed, side):
-    """What this end says first on its next link: the count of which it knows that it was acknowledged, and how much it has processed, if it tells that."""
+    """What this end says first on a later link: the count of which it knows by then that it was acknowledged, and how much it has processed, if it
+    tells that."""
     has_moved, codec = False, placed.ends[side].marks.codec
     for other, kind, told in placed.seen[placed.at :]:
         if other == side and kind == "attach": has_moved = True
@@ -228,7 +235,7 @@ def before_loss(placed, side):
     opening = opening_of(placed, side)
     for one in reversed(found):
         marks = one.ends[side].marks
-        if not opening or marks.acked == opening[0] and opening[1] in (None, marks.processed): yield one
+        if not opening or marks.acked <= opening[0] and (opening[1] is None or marks.processed <= opening[1]): yield one
 
 
 def searched(placed, side):
