@@ -18,7 +18,7 @@ import frames_model
 import replay_model
 from replay_model import End, Refused, Script, json_text, number_of, spell
 
-MOST_TRACE = 67_108_864  # bytes
+MOST_SCRIPT, MOST_TRACE = 16_777_216, 67_108_864  # bytes
 FRAMING = 5  # bytes that an end may have unread beside a frame
 SILENCE = 30_000  # ms
 OTHER = {"c": "s", "s": "c"}
@@ -101,10 +101,13 @@ class Recorder(Script):
 
 def record(script):
     """What `record` writes of a script, a text or bytes, and its exit status."""
-    if isinstance(script, bytes): script = script.decode(errors="surrogateescape")
-    recorder = Recorder()
-    for number, line in enumerate(script.removesuffix("\n").split("\n") if script else [], 1):
-        try: recorder.line(line)
+    data = script if isinstance(script, bytes) else script.encode()
+    recorder, end = Recorder(), 0
+    for number, line in enumerate(lines_of(data), 1):
+        end += len(line)
+        try:
+            if end > MOST_SCRIPT: raise Refused
+            recorder.line(line.removesuffix(b"\n").decode(errors="surrogateescape"))
         except Refused: return f"line {number} refused\n", 2
     return recorder.text_of_trace(), 0
 
