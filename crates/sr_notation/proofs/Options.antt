@@ -78,7 +78,8 @@ limits_of words count rest bytes frame limits others are are' parts word cut wor
 own_parts : (limits : Limits) → AreParts (decimal limits.count) (decimal limits.bytes) (decimal limits.frame) limits
 own_parts limits = record { count_is = refl; bytes_is = refl; frame_is = refl }
 
-same_words : (limits others : Limits) → AreLimits limits → AreLimits others → buffer_words others ≡ buffer_words limits → others ≡ limits
+-- so are those of no others
+pub same_words : (limits others : Limits) → AreLimits limits → AreLimits others → buffer_words others ≡ buffer_words limits → others ≡ limits
 same_words limits others are are' same =
     let short = short_limits limits are in
     limits_of (buffer_words limits) (decimal limits.count) (decimal limits.bytes ++ 32 ∷ decimal limits.frame) (decimal limits.bytes) (decimal limits.frame)

@@ -22,7 +22,7 @@ mod reading;
 mod setting;
 mod telling;
 
-pub use laws::words_are_cut_once;
-pub use reading::{parse_number, parse_setting, split_at_space};
+pub use laws::{limits_are_told_once, words_are_cut_once};
+pub use reading::{parse_buffer, parse_number, parse_setting, parse_version, split_at_space};
 pub use setting::Setting;
 pub use telling::{letter, push_got_words};

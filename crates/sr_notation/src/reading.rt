@@ -48,8 +48,8 @@ pub fn split_at_space(bytes: &[u8]) -> Option<(&[u8], &[u8])>
     None
 }
 
-/// The limits whose count, bytes and frame these words are, or `None` if they aren't three numbers in range.
-fn parse_buffer(alloc: Global, words: &[u8]) -> Result<Option<Limits>, AllocError>
+/// The limits whose count, bytes and frame these words are, or `None` if they aren't three numbers in range. Fails if memory runs out.
+pub fn parse_buffer(alloc: Global, words: &[u8]) -> Result<Option<Limits>, AllocError>
     ensures found { IfOk result (λ r. IfSome r (λ limits. (words.now ≡ buffer_words limits) × AreLimits limits)) }
     ensures none { IfOk result (λ r. IfNone r ((limits : Limits) → AreLimits limits → words.now ≡ buffer_words limits → ⊥)) }
 {
@@ -71,8 +71,8 @@ fn parse_buffer(alloc: Global, words: &[u8]) -> Result<Option<Limits>, AllocErro
     Ok(Limits::of(frame as usize, count as usize, bytes as usize))
 }
 
-/// The version whose digits these are, or `None` if there is no such version.
-fn parse_version(alloc: Global, digits: &[u8]) -> Result<Option<u8>, AllocError>
+/// The version whose digits these are, or `None` if there is no such version. Fails if memory runs out.
+pub fn parse_version(alloc: Global, digits: &[u8]) -> Result<Option<u8>, AllocError>
     ensures found { IfOk result (λ r. IfSome r (λ version. (digits.now ≡ decimal version) × IsVersion version)) }
     ensures none { IfOk result (λ r. IfNone r ((version : ℕ) → IsVersion version → digits.now ≡ decimal version → ⊥)) }
 {

@@ -3,6 +3,7 @@ pub mod Grammar
 pub mod Calls
 pub mod Scripts
 pub mod Parsing
+pub mod WithoutPeers
 pub mod Turning
 pub mod Settled
 pub mod First

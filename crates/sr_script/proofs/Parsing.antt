@@ -9,7 +9,7 @@ use Rattle.sr_script.specs.declared.script.Reader.{Reader}
 use Rattle.sr_script.specs.declared.script.ScriptError.{ScriptError}
 use Rattle.sr_script.specs.declared.script.ScriptError.TheVariants.{Line, NoMemory}
 use Rattle.sr_script.specs.Lines.{lines_of, text_of}
-use Rattle.sr_script.specs.Script.{Program, IsPassedOver, IsScript, Parses, IsScriptUpTo, IsRefusedAt}
+use Rattle.sr_script.specs.Script.{Program, IsPassedOver, IsScript, Parses, IsScriptUpTo, IsFirstLacking, IsRefusedAt}
 use Rattle.sr_script.specs.Asking.{and_then}
 use Rattle.sr_script.specs.Turns.{Knows}
 use Rattle.sr_script.specs.Reading.{HasRead, IsLineEnd, Comes, CantCome, RefusesText}
@@ -95,15 +95,19 @@ text_of-append : (ls ms : List (List ℕ)) → length (text_of (ls ++ ms)) ≡ l
 text_of-append [] ms = omega arith
 text_of-append (l ∷ ls) ms = omega (arith, text_of-append ls ms, length-append (l ++ 10 ∷ []) (text_of (ls ++ ms)), length-append (l ++ 10 ∷ []) (text_of ls))
 
-has_fewer : (text : List ℕ) (n m : ℕ) → m ≤ n → IsScriptUpTo text n → IsScriptUpTo text m
+-- the lines up to a place, the latest first, and those after it
+pub turned_lines : (text : List ℕ) (n m : ℕ) → m ≤ n
+    → reverse (take n (lines_of text)) ≡ reverse (drop m (take n (lines_of text))) ++ reverse (take m (lines_of text))
+turned_lines text n m less =
+    ap reverse (sym (take-append-drop m (take n (lines_of text))) ∙ ap (λ xs. xs ++ drop m (take n (lines_of text))) (take-take m n (lines_of text) less))
+    ∙ reverse-append (take m (lines_of text)) (drop m (take n (lines_of text)))
+
+pub has_fewer : (text : List ℕ) (n m : ℕ) → m ≤ n → IsScriptUpTo text n → IsScriptUpTo text m
 has_fewer text n m less has =
-    let shorter : take m (take n (lines_of text)) ≡ take m (lines_of text) = take-take m n (lines_of text) less in
     let both : take n (lines_of text) ≡ take m (lines_of text) ++ drop m (take n (lines_of text)) =
-    sym (take-append-drop m (take n (lines_of text))) ∙ ap (λ xs. xs ++ drop m (take n (lines_of text))) shorter in
-    let turned : reverse (take n (lines_of text)) ≡ reverse (drop m (take n (lines_of text))) ++ reverse (take m (lines_of text)) =
-    ap reverse both ∙ reverse-append (take m (lines_of text)) (drop m (take n (lines_of text))) in
+    sym (take-append-drop m (take n (lines_of text))) ∙ ap (λ xs. xs ++ drop m (take n (lines_of text))) (take-take m n (lines_of text) less) in
     let before = script_before (reverse (drop m (take n (lines_of text)))) (reverse (take m (lines_of text))) has.asks
-    (subst (λ (ls : List (List ℕ)). IsScript ls has.asks) turned has.script) in
+    (subst (λ (ls : List (List ℕ)). IsScript ls has.asks) (turned_lines text n m less) has.script) in
     record {
       there = omega (arith, has.there);
       within = omega (arith, has.within, ap (λ (ls : List (List ℕ)). length (text_of ls)) both, text_of-append (take m (lines_of text)) (drop m (take n (lines_of text))));
@@ -111,31 +115,40 @@ has_fewer text n m less has =
       script = before.1;
     }
 
--- a text is refused at one line alone
-pub refused_once : (text : List ℕ) (number : ℕ) → IsRefusedAt text number → IsTheOne (IsRefusedAt text) number
-refused_once text number refused = record { holds = refused; only = λ other is. same other is } where
-  below : (a b : ℕ) → IsRefusedAt text a → IsRefusedAt text b → a < b → ⊥
-  below a b x y less = x.bad (has_fewer text y.before a (omega (arith, y.next)) y.good)
+-- there is one first line up to which a text isn't what it is up to each line before
+pub lacking_once : (IsUpTo : ℕ → Type 0) (fewer : (n m : ℕ) → m ≤ n → IsUpTo n → IsUpTo m) (text : List ℕ) (number : ℕ)
+    → IsFirstLacking IsUpTo text number → IsTheOne (IsFirstLacking IsUpTo text) number
+lacking_once IsUpTo fewer text number refused = record { holds = refused; only = λ other is. same other is } where
+  below : (a b : ℕ) → IsFirstLacking IsUpTo text a → IsFirstLacking IsUpTo text b → a < b → ⊥
+  below a b x y less = x.bad (fewer y.before a (omega (arith, y.next)) y.good)
 
-  same_by : (other : ℕ) → IsRefusedAt text other → (other < number) ⊎ (number ≤ other) → (number < other) ⊎ (other ≤ number) → other ≡ number
+  same_by : (other : ℕ) → IsFirstLacking IsUpTo text other → (other < number) ⊎ (number ≤ other) → (number < other) ⊎ (other ≤ number) → other ≡ number
   same_by other is (inl less) more = absurd (below other number is refused less)
   same_by other is (inr le) (inl more) = absurd (below number other refused is more)
   same_by other is (inr le) (inr ge) = omega arith
 
-  same : (other : ℕ) → IsRefusedAt text other → other ≡ number
+  same : (other : ℕ) → IsFirstLacking IsUpTo text other → other ≡ number
   same other is = same_by other is (cases_lt other number) (cases_lt number other)
 
+-- a text is refused at one line alone
+pub refused_once : (text : List ℕ) (number : ℕ) → IsRefusedAt text number → IsTheOne (IsRefusedAt text) number
+refused_once text number refused = lacking_once (IsScriptUpTo text) (has_fewer text) text number refused
+
 -- the lines before a place are a script
-good_lines : (text : List ℕ) (reader : Reader) (p : Program) (read : HasRead reader text p) → IsScriptUpTo text (length read.lines)
-good_lines text reader p read =
-    let first : take (length read.lines) (lines_of text) ≡ read.lines =
-    ap (λ xs. take (length read.lines) xs) read.whole ∙ take_at read.lines (lines_of (drop reader.at text)) (length read.lines) refl in
-    record {
-      there = omega (arith, ap length read.whole, length-append read.lines (lines_of (drop reader.at text)));
-      within = rw first (omega (arith, read.place, read.within));
-      asks = p;
-      script = subst (λ (ls : List (List ℕ)). IsScript (reverse ls) p) (sym first) read.script.holds;
-    }
+lines_read : (text : List ℕ) (reader : Reader) (p : Program) (read : HasRead reader text p) → take (length read.lines) (lines_of text) ≡ read.lines
+lines_read text reader p read =
+    ap (λ xs. take (length read.lines) xs) read.whole ∙ take_at read.lines (lines_of (drop reader.at text)) (length read.lines) refl
+
+pub good_script : (text : List ℕ) (reader : Reader) (p : Program) (read : HasRead reader text p) → IsScript (reverse (take (length read.lines) (lines_of text))) p
+good_script text reader p read = subst (λ (ls : List (List ℕ)). IsScript (reverse ls) p) (sym (lines_read text reader p read)) read.script.holds
+
+pub good_lines : (text : List ℕ) (reader : Reader) (p : Program) (read : HasRead reader text p) → IsScriptUpTo text (length read.lines)
+good_lines text reader p read = record {
+  there = omega (arith, ap length read.whole, length-append read.lines (lines_of (drop reader.at text)));
+  within = rw (lines_read text reader p read) (omega (arith, read.place, read.within));
+  asks = p;
+  script = good_script text reader p read;
+}
 
 -- the lines with the next one
 with_next : (text : List ℕ) (end : ℕ) (reader : Reader) (p : Program) (read : HasRead reader text p) → reader.at < length text → IsLineEnd (drop reader.at text) end
@@ -220,10 +233,15 @@ parsed text reader p past read =
 -- ---- what comes after the limit
 
 -- It changes no line within the limit.
-has_same : (front a b : List ℕ) (n : ℕ) → 16777216 < length front → IsScriptUpTo (front ++ a) n → IsScriptUpTo (front ++ b) n
+pub same_up_to : (front a b : List ℕ) (n : ℕ) → 16777216 < length front → IsScriptUpTo (front ++ a) n → take n (lines_of (front ++ b)) ≡ take n (lines_of (front ++ a))
+same_up_to front a b n long has =
+    let fits : length (text_of (take n (lines_of (front ++ a)))) ≤ 16777216 = omega (arith, has.within, length-append front a) in
+    same_lines front a b n has.there (omega arith)
+
+pub has_same : (front a b : List ℕ) (n : ℕ) → 16777216 < length front → IsScriptUpTo (front ++ a) n → IsScriptUpTo (front ++ b) n
 has_same front a b n long has =
     let fits : length (text_of (take n (lines_of (front ++ a)))) ≤ 16777216 = omega (arith, has.within, length-append front a) in
-    let same : take n (lines_of (front ++ b)) ≡ take n (lines_of (front ++ a)) = same_lines front a b n has.there (omega arith) in
+    let same = same_up_to front a b n long has in
     record {
       there = omega (arith, ap length same, length-take n (lines_of (front ++ b)), length-take n (lines_of (front ++ a)), has.there);
       within = omega (arith, fits, ap (λ (ls : List (List ℕ)). length (text_of ls)) same);

@@ -6,7 +6,7 @@ use Rattle.hd_delivery.specs.Bounds.{AreLimits}
 use Rattle.sr_notation.specs.declared.setting.Setting.{Setting}
 use Rattle.sr_script.specs.declared.action.Action.{Action}
 use Rattle.sr_script.specs.declared.script.Reader.{Reader}
-use Rattle.sr_script.specs.Script.{Program, Parses, IsRefusedAt, AreInTurn, AllSuit, most_script}
+use Rattle.sr_script.specs.Script.{Program, Parses, IsRefusedAt, IsRefusedWithoutPeers, AreInTurn, AllSuit, most_script}
 use Rattle.sr_notation.specs.Terms.{version_in, limits_in, peers_in}
 use Rattle.sr_script.specs.Lines.{lines_of, text_of}
 use Rattle.sr_script.specs.Reading.{HasRead, IsLineEnd}
@@ -36,6 +36,11 @@ SettingsComeFirst = (text : List ℕ) (reader : Reader) (settings : List Setting
 abbrev pub LongIsRefusedByItsFront : Type 0
 LongIsRefusedByItsFront = (front more : List ℕ) (number : ℕ) → most_script < length front → IsTheOne (IsRefusedAt front) number
     → IsTheOne (IsRefusedAt (front ++ more)) number
+
+-- so is one that is to be without peers
+abbrev pub LongIsRefusedByItsFrontWithoutPeers : Type 0
+LongIsRefusedByItsFrontWithoutPeers = (front more : List ℕ) (number : ℕ) → most_script < length front → IsTheOne (IsRefusedWithoutPeers front) number
+    → IsTheOne (IsRefusedWithoutPeers (front ++ more)) number
 
 -- a text is its first line and the lines of what comes after that
 abbrev pub LinesAreCut : Type 0

@@ -1,13 +1,15 @@
 -- A script that is read line by line.
-use Rattle.std.specs.Prelude.{◌≡◌, ◌≢◌, ◌≤◌, ◌<◌, ℕ, suc, min, List, ◌++◌, length, take, drop, reverse, slice_index, All}
+use Rattle.std.specs.Prelude.{◌≡◌, ◌≢◌, ◌≤◌, ◌<◌, ℕ, suc, min, Bool, true, false, List, ◌++◌, length, take, drop, reverse, slice_index, All}
 use Rattle.std.specs.Str.{IsUtf8}
 use Rattle.hd_facts.specs.Unique.{IsTheOne}
 use Rattle.sr_script.specs.declared.line.Asked.{Asked}
+use Rattle.sr_notation.specs.declared.setting.Setting.TheVariants as setting
 use Rattle.sr_script.specs.declared.script.Reader.{Reader}
 use Rattle.sr_script.specs.declared.script.ScriptError.{ScriptError}
 use Rattle.sr_script.specs.declared.script.ScriptError.TheVariants.{Line, NoMemory}
 use Rattle.sr_script.specs.Lines.{lines_of, text_of}
-use Rattle.sr_script.specs.Script.{Program, IsScript, Parses, IsRefusedAt, most_script}
+use Rattle.sr_script.specs.Script.{Program, IsScript, Parses, IsRefusedAt, IsWithoutPeers, IsRefusedWithoutPeers, most_script}
+use Rattle.sr_script.specs.declared.line.Asked.TheVariants as asked
 use Rattle.sr_script.specs.Asking.{Wants, MayCome, IsReadable}
 use Rattle.sr_script.specs.Turns.{Knows}
 
@@ -47,3 +49,29 @@ CantCome line p = IsUtf8 line → (x : Asked) → Wants line x → MayCome p x �
 abbrev pub RefusesText : ScriptError → List ℕ → Type 0
 RefusesText (Line number) text = IsTheOne (IsRefusedAt text) number × ((p : Program) → Parses text p → ⊥)
 RefusesText NoMemory text = Unit {0}
+
+-- the lines before this one were read, and ask for the program
+pub record HasCome (text : List ℕ) (p : Program) (number : ℕ) : Type 0 where
+  pub reader : Reader
+  pub read : HasRead reader text p
+  pub number_is : reader.number ≡ number
+
+-- ---- without peers
+
+-- whether it is the option of peers
+abbrev pub asks_for_peers : Asked → Bool
+asks_for_peers (asked.Setting setting.Peers) = true
+asks_for_peers x = false
+
+-- the lines that were read ask for nothing of peers
+abbrev pub HasReadWithoutPeers : Reader → List ℕ → Program → Type 0
+HasReadWithoutPeers reader text p = HasRead reader text p × IsWithoutPeers p
+
+-- the text is a script without peers that asks for this, and for nothing else
+abbrev pub ParsesWithoutPeers : List ℕ → Program → Type 0
+ParsesWithoutPeers text p = IsTheOne (Parses text) p × IsWithoutPeers p
+
+-- if it isn't that memory ran out, the text is refused as a script without peers at this line, and at no other
+abbrev pub RefusesWithoutPeers : ScriptError → List ℕ → Type 0
+RefusesWithoutPeers (Line number) text = IsTheOne (IsRefusedWithoutPeers text) number × ((p : Program) → Parses text p → IsWithoutPeers p → ⊥)
+RefusesWithoutPeers NoMemory text = Unit {0}

@@ -184,13 +184,32 @@ pub record IsScriptUpTo (text : List ℕ) (n : ℕ) : Type 0 where
   pub asks : Program
   pub script : IsScript (reverse (take n (lines_of text))) asks
 
--- the line of this number, from 1, is there, and is the first that the grammar lacks
-pub record IsRefusedAt (text : List ℕ) (number : ℕ) : Type 0 where
+-- the line of this number, from 1, is there, and is the first up to which the text isn't this
+pub record IsFirstLacking (IsUpTo : ℕ → Type 0) (text : List ℕ) (number : ℕ) : Type 0 where
   pub before : ℕ
   pub next : number ≡ suc before
   pub there : number ≤ length (lines_of text)
-  pub good : IsScriptUpTo text before
-  pub bad : IsScriptUpTo text number → ⊥
+  pub good : IsUpTo before
+  pub bad : IsUpTo number → ⊥
+
+-- it is the first that the grammar lacks
+abbrev pub IsRefusedAt : List ℕ → ℕ → Type 0
+IsRefusedAt text number = IsFirstLacking (IsScriptUpTo text) text number
+
+-- ---- scripts of two ends alone
+
+-- no line says that there are peers
+abbrev pub IsWithoutPeers : Program → Type 0
+IsWithoutPeers p = peers_in p.settings ≡ false
+
+-- the first n lines are a script without peers
+pub record IsWithoutPeersUpTo (text : List ℕ) (n : ℕ) : Type 0 where
+  pub up_to : IsScriptUpTo text n
+  pub without : IsWithoutPeers up_to.asks
+
+-- the line is the first that the grammar lacks, if the option of peers is none of it
+abbrev pub IsRefusedWithoutPeers : List ℕ → ℕ → Type 0
+IsRefusedWithoutPeers text number = IsFirstLacking (IsWithoutPeersUpTo text) text number
 
 -- the answer to a text that is no script
 abbrev pub refusal_line : ℕ → List ℕ

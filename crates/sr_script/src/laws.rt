@@ -1,6 +1,6 @@
 //! What holds of scripts. No function here does anything: its contract is the law.
 
-ghost use Rattle.sr_script.specs.Laws.{FrontsKeepLines, LinesAreCut, LongIsRefusedByItsFront, ScriptsAreInTurn, ScriptsAreSettled, ScriptsSuit, SettingsComeFirst};
+ghost use Rattle.sr_script.specs.Laws.{FrontsKeepLines, LinesAreCut, LongIsRefusedByItsFront, LongIsRefusedByItsFrontWithoutPeers, ScriptsAreInTurn, ScriptsAreSettled, ScriptsSuit, SettingsComeFirst};
 
 /// Each action of a script may come after those before it.
 pub fn scripts_are_in_turn()
@@ -25,6 +25,11 @@ pub fn settings_come_first()
 /// A text of more bytes than a script may have is refused at the line at which its front is.
 pub fn long_is_refused_by_its_front()
     ensures { LongIsRefusedByItsFront }
+{}
+
+/// So it is as a script without peers.
+pub fn long_is_refused_by_its_front_without_peers()
+    ensures { LongIsRefusedByItsFrontWithoutPeers }
 {}
 
 /// A text is its first line, up to the end that [`line_end`](crate::line_end) finds, and the lines of what comes after that.

@@ -9,7 +9,7 @@
 //! `line.rt` reads one line, `turn.rt` says which line may come, and `script.rt` goes over all of them. `action.rt` has what they ask for.
 //!
 //! Proved: a text is a script that asks for one thing, or is refused at its first line that no script has ([`parse`]). What a reader gives
-//! is what the script asks for, in order ([`Reader::next_in`]). The definitions are `specs/Script.antt`. Options are those of
+//! is what the script asks for, in order ([`Reader::next_in`]). [`parse_without_peers`] reads the scripts in which no line asks for peers. The definitions are `specs/Script.antt`. Options are those of
 //! `sr_notation`.
 //!
 //! A script of one peer alone, without letters of ends, is read by the same words: [`line_end`], [`is_passed_over`], [`parse_peer_words`].
@@ -25,8 +25,9 @@ mod turn;
 
 pub use action::{Action, Asking, Count};
 pub use laws::{
-    fronts_keep_lines, lines_are_cut, long_is_refused_by_its_front, scripts_are_in_turn,
-    scripts_are_settled, scripts_suit, settings_come_first,
+    fronts_keep_lines, lines_are_cut, long_is_refused_by_its_front,
+    long_is_refused_by_its_front_without_peers, scripts_are_in_turn, scripts_are_settled,
+    scripts_suit, settings_come_first,
 };
 pub use line::{Asked, is_passed_over, parse_peer_words};
-pub use script::{MOST_SCRIPT, Reader, Script, ScriptError, line_end, parse};
+pub use script::{MOST_SCRIPT, Reader, Script, ScriptError, line_end, parse, parse_without_peers};

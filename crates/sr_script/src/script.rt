@@ -6,10 +6,11 @@ ghost use Rattle.sr_script.specs.declared.script.ScriptError.TheVariants.{Line, 
 ghost use Rattle.sr_script.specs.Script.{Program, Parses, IsRefusedAt};
 ghost use Rattle.sr_script.specs.Asking.{and_then, IsAllowed, MayCome};
 ghost use Rattle.sr_script.specs.Turns.{Knows};
-ghost use Rattle.sr_script.specs.Reading.{HasRead, IsLineEnd, Comes, CantCome, RefusesText};
+ghost use Rattle.sr_script.specs.Reading.{HasCome, HasRead, HasReadWithoutPeers, IsLineEnd, Comes, CantCome, ParsesWithoutPeers, RefusesWithoutPeers, RefusesText, asks_for_peers};
 
 use crate::line::{Asked, is_passed_over, parse_line};
 use crate::turn::Turn;
+use sr_notation::Setting;
 use std::alloc::{AllocError, AllocFailed, Global};
 use std::fmt;
 use std::marker::Model;
@@ -89,6 +90,28 @@ pub fn parse(alloc: Global, text: &[u8]) -> Result<Script, ScriptError>
     Ok(Script { text })
 }
 
+/// The script that this text is, if it is one of two ends alone; or the number of the first line at which it stops being one. The option
+/// of peers is none of such a script, so its line is refused as any other.
+pub fn parse_without_peers(alloc: Global, text: &[u8]) -> Result<Script, ScriptError>
+    ensures ok { IfOk result (λ script. (script ≡ text.now) × ((p : Program) × ParsesWithoutPeers text.now p)) }
+    ensures refused { IfErr result (λ e. RefusesWithoutPeers e text.now) }
+{
+    let mut reader = Reader::start(alloc);
+    while reader.pass_without_peers(alloc, text)? {}
+    let text = Vec::from_slice(alloc, text)?;
+    Ok(Script { text })
+}
+
+/// Whether a line asked for peers.
+fn asks_for_peers(asked: &Asked) -> bool
+    ensures { result ≡ asks_for_peers asked.now }
+{
+    match asked {
+        Asked::Setting(Setting::Peers) => true,
+        _ => false,
+    }
+}
+
 /// The length of the first line, without its end.
 pub fn line_end(text: &[u8]) -> usize
     ensures { IsLineEnd text.now result }
@@ -130,6 +153,9 @@ impl Reader {
             MayCome p x × IsAllowed x × HasRead self.new text.now (and_then p x))) }
         ensures end { IfOk result (λ r. IfNone r ((p : Program) → HasRead self.old text.now p → IsTheOne (Parses text.now) p)) }
         ensures refused { IfErr result (λ e. RefusesText e text.now) }
+        ensures came { IfOk result (λ r. IsSome r → (p : Program) → HasRead self.old text.now p →
+            (n : ℕ) × HasCome text.now p n × (self.new.number ≡ suc n)) }
+        ensures stopped { IfErr result (λ e. (n : ℕ) → e ≡ Line n → (p : Program) → HasRead self.old text.now p → HasCome text.now p n) }
         ensures moves { IfOk result (λ r. IsSome r → (self.old.at < self.new.at) × (self.new.at ≤ length text.now)) }
     {
         while self.at < text.len() {
@@ -182,6 +208,23 @@ impl Reader {
             }
             None => Ok(false),
         }
+    }
+
+    /// The same in a script of two ends alone.
+    fn pass_without_peers(&mut self, alloc: Global, text: &[u8]) -> Result<bool, ScriptError>
+        requires { (p : Program) × HasReadWithoutPeers self.old text.now p }
+        ensures more { IfOk result (λ more. IsTrue more → (p : Program) × HasReadWithoutPeers self.new text.now p) }
+        ensures end { IfOk result (λ more. more ≡ false → (p : Program) × ParsesWithoutPeers text.now p) }
+        ensures refused { IfErr result (λ e. RefusesWithoutPeers e text.now) }
+        ensures moves { IfOk result (λ more. IsTrue more → (self.old.at < self.new.at) × (self.new.at ≤ length text.now)) }
+    {
+        let Some(asked) = self.next(alloc, text)? else {
+            return Ok(false);
+        };
+        if asks_for_peers(&asked) {
+            return Err(ScriptError::Line(self.number - 1));
+        }
+        Ok(true)
     }
 
     /// What the line asks for.

@@ -1,4 +1,6 @@
-use Rattle.std.proofs.Common.{◌≡◌, ◌+◌, arith, drop, refl, length-drop}
+use Rattle.std.proofs.Common.{◌≡◌, ◌+◌, ℕ, arith, drop, refl, sym, ap, length-drop}
+use Rattle.sr_script.specs.declared.script.ScriptError.{ScriptError}
+use Rattle.sr_script.specs.declared.script.ScriptError.TheVariants.{Line, NoMemory}
 use Rattle.std.proofs.lemmas.Bool.{both_ways}
 use Rattle.std.proofs.lemmas.Result.{err_from_is_err_and}
 use Rattle.std.proofs.lemmas.List.{take_rest}
@@ -61,3 +63,24 @@ loop-self-preserved c =
 
 pub returns-clause-end : goal.returns-clause-end
 returns-clause-end c = λ p old. parsed c.args.text.now c.loop-self.self p (omega arith) (c.loop-self.invariant.same p old)
+
+abbrev number_in : ScriptError → ℕ
+number_in (Line number) = number
+number_in NoMemory = 0
+
+pub returns-then-after-gt-MOST_SCRIPT-clause-stopped : goal.returns-then-after-gt-MOST_SCRIPT-clause-stopped
+returns-then-after-gt-MOST_SCRIPT-clause-stopped c = λ n is p old.
+    record { reader = c.loop-self.self; read = c.loop-self.invariant.same p old; number_is = ap number_in is }
+
+pub returns-in_err-asked-clause-stopped : goal.returns-in_err-asked-clause-stopped
+returns-in_err-asked-clause-stopped c =
+    let q = err_from_is_err_and c.from_residual.result c.from_residual.ensures.1 in
+    rw (q.1, q.2) (λ n is p old.
+    record { reader = c.loop-self.self; read = c.loop-self.invariant.same p old; number_is = sym (c.in_err-asked.ensures.refused n is).0 })
+
+pub returns-then-not-is_passed_over-clause-came : goal.returns-then-not-is_passed_over-clause-came
+returns-then-not-is_passed_over-clause-came c = λ some p old. (
+  c.loop-self.self.number,
+  record { reader = c.loop-self.self; read = c.loop-self.invariant.same p old; number_is = refl },
+  omega (arith, c.in_ok-asked.ensures.place.1),
+)
