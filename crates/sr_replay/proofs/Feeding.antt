@@ -2,7 +2,6 @@
 use Rattle.std.proofs.Common.{inr, ◌≡◌, ◌⊎◌, ℕ, zero, suc, ◌+◌, ◌-◌, ◌<◌, Bool, true, false, List, [], ◌∷◌, ◌++◌, length, take, drop, Some, None, option_map, refl, sym, ap, ◌∙◌, subst, arith, append_assoc, length-take, if◌then◌else◌}
 use Rattle.std.specs.Prelude.{min}
 use Rattle.std.proofs.lemmas.List.{append-nil, take_min}
-use Rattle.hd_delivery.specs.declared.vocabulary.Side.{Side}
 use Rattle.hd_delivery.specs.Numbers.{most_framing}
 use Rattle.hd_delivery.specs.Histories as of
 use Rattle.hd_delivery.specs.Histories.{first_of, present_link, is_closed}
@@ -18,7 +17,9 @@ use Rattle.sr_replay.specs.declared.player.Player.{Player}
 use Rattle.hd_delivery.specs.AloneLaws.{TakenHasRoom, HasRoomFor}
 use Rattle.hd_delivery.specs.Following.{Next, Follow}
 use Rattle.hd_delivery.specs.Alone.{piece_fed, feeding, taking, reading}
-use Rattle.sr_replay.specs.Plays.{Plays, Feeds, limits_at, steps_text}
+use Rattle.sr_replay.specs.declared.text_kind.TextKind.{TextKind}
+use Rattle.sr_replay.specs.Told.{steps_text}
+use Rattle.sr_replay.specs.Plays.{Plays, Feeds, limits_at}
 
 -- the player with another end
 abbrev pub with : Player → End → Player
@@ -31,12 +32,13 @@ follow_append next h rs [] first then_more = first
 follow_append next h rs (s ∷ ss) first then_more =
     (follow_append next h rs ss first then_more.0, ap next (append_assoc ss rs h) ∙ then_more.1)
 
-pub text_append : (side : Side) (h rs ss : List ByteStep) → steps_text side h (ss ++ rs) ≡ steps_text side h rs ++ steps_text side (rs ++ h) ss
-text_append side h rs [] = sym (append-nil (steps_text side h rs))
-text_append side h rs (s ∷ ss) =
-    let one = steps_text side (ss ++ (rs ++ h)) (s ∷ []) in
-    ap (λ k. steps_text side h (ss ++ rs) ++ steps_text side k (s ∷ [])) (append_assoc ss rs h)
-    ∙ (ap (λ x. x ++ one) (text_append side h rs ss) ∙ append_assoc (steps_text side h rs) (steps_text side (rs ++ h) ss) one)
+pub text_append : (kind : TextKind) (wire : Wire) (c : of.Config) (h rs ss : List ByteStep)
+    → steps_text kind wire c h (ss ++ rs) ≡ steps_text kind wire c h rs ++ steps_text kind wire c (rs ++ h) ss
+text_append kind wire c h rs [] = sym (append-nil (steps_text kind wire c h rs))
+text_append kind wire c h rs (s ∷ ss) =
+    let one = steps_text kind wire c (ss ++ (rs ++ h)) (s ∷ []) in
+    ap (λ k. steps_text kind wire c h (ss ++ rs) ++ steps_text kind wire c k (s ∷ [])) (append_assoc ss rs h)
+    ∙ (ap (λ x. x ++ one) (text_append kind wire c h rs ss) ∙ append_assoc (steps_text kind wire c h rs) (steps_text kind wire c (rs ++ h) ss) one)
 
 -- ---- what comes next
 

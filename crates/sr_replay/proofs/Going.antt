@@ -1,7 +1,6 @@
 -- How an end of a replay goes on, step by step.
 use Rattle.std.proofs.Common.{inl, inr, ◌≡◌, ℕ, ◌+◌, ◌<◌, ◌≤◌, Bool, true, false, List, [], ◌∷◌, ◌++◌, length, None, refl, sym, ap, ◌∙◌, arith, append_assoc, drop, length-drop, if◌then◌else◌}
 use Rattle.std.proofs.lemmas.List.{append-nil}
-use Rattle.hd_delivery.specs.declared.vocabulary.Side.{Side}
 use Rattle.hd_delivery.specs.Histories as of
 use Rattle.hd_delivery.specs.Histories.{Lent, sent_messages, acked_count, most_lent, is_resumable, held_messages}
 use Rattle.hd_delivery.specs.Worlds.{Limits}
@@ -17,7 +16,9 @@ use Rattle.sr_replay.specs.declared.player.Player.{Player}
 use Rattle.hd_delivery.specs.AloneLaws.{WritesFew, TakesFew}
 use Rattle.hd_delivery.specs.Following.{Next, Follow, FollowAll, FollowUpTo}
 use Rattle.hd_delivery.specs.Alone.{writing, taking}
-use Rattle.sr_replay.specs.Plays.{Plays, Text, Goes, steps_text, most_steps}
+use Rattle.sr_replay.specs.declared.text_kind.TextKind.{TextKind}
+use Rattle.sr_replay.specs.Told.{steps_text}
+use Rattle.sr_replay.specs.Plays.{Plays, Text, Goes, Says, most_steps}
 use Rattle.hd_delivery.specs.Alone.{lent_text}
 use Rattle.sr_script.specs.Script.{most_of}
 
@@ -28,8 +29,8 @@ pub record Adds (text : Text) : Type 0 where
   pub none : (h : List ByteStep) → text h [] ≡ []
   pub more : (h ss : List ByteStep) (s : ByteStep) → text h (s ∷ ss) ≡ text h ss ++ text (ss ++ h) (s ∷ [])
 
-pub steps_add : (side : Side) → Adds (steps_text side)
-steps_add side = record { none = λ h. refl; more = λ h ss s. refl }
+pub steps_add : (kind : TextKind) (wire : Wire) (c : of.Config) → Adds (steps_text kind wire c)
+steps_add kind wire c = record { none = λ h. refl; more = λ h ss s. refl }
 
 lent_more : (wire : Wire) (c : of.Config) (h ss : List ByteStep) (s : ByteStep) → lent_text wire c h (s ∷ ss) ≡ lent_text wire c h ss ++ lent_text wire c (ss ++ h) (s ∷ [])
 lent_more wire c h ss (Does (Lent f)) = refl
@@ -75,19 +76,70 @@ module _ (next : Next ByteStep) (text : Text) (adds : Adds text) (wire : Wire) (
     up_to_all (UpTo m) few none = inr ((gone.follow, none), omega (arith, gone.many))
     up_to_all Everything few none = (gone.follow, none)
 
-    pub up_to_done : (count : Count) → n < most_steps count → Goes next text wire c (gone.steps ++ h) new now after false
-        → (ss : List ByteStep) × (FollowUpTo (most_of count) next h ss × Plays wire c new (ss ++ h) × (after ≡ before ++ text h ss))
-    up_to_done count few done = (gone.steps, (up_to_all count few done.0, done.1, done.2 ∙ gone.text_is))
-
   module _ (p : Player) (before now : List ℕ) where
     -- so many of them
     up_to_end : (count : Count) (gone : HasGone next text wire c h p before now (most_steps count)) → length gone.steps < most_steps Everything → FollowUpTo (most_of count) next h gone.steps
     up_to_end (UpTo m) gone few = inl (gone.follow, gone.many)
     up_to_end Everything gone few = absurd (let many = gone.many in omega arith)
 
-    pub up_to_most : (count : Count) (gone : HasGone next text wire c h p before now (most_steps count)) → length gone.steps < most_steps Everything
-        → (ss : List ByteStep) × (FollowUpTo (most_of count) next h ss × Plays wire c p (ss ++ h) × (now ≡ before ++ text h ss))
-    up_to_most count gone few = (gone.steps, (up_to_end count gone few, gone.plays, gone.text_is))
+-- ---- frames that are said
+
+-- these frames were said on the link, this many, and told
+pub record HasSaid (kind : TextKind) (wire : Wire) (c : of.Config) (h : List ByteStep) (p : Player) (lane_before lane_now before now : List ℕ) (n : ℕ) : Type 0 where
+  pub gone : HasGone (writing wire c) (lent_text wire c) wire c h p lane_before lane_now n
+  pub told : now ≡ before ++ steps_text kind wire c h gone.steps
+
+module _ (kind : TextKind) (wire : Wire) (c : of.Config) (h : List ByteStep) where
+  -- what was said and told in the end
+  abbrev pub Ends : Player → (lane_before lane_after before after : List ℕ) → Count → Type 0
+  Ends new lane_before lane_after before after count = (ss : List ByteStep) × (FollowUpTo (most_of count) (writing wire c) h ss × Plays wire c new (ss ++ h)
+      × (lane_after ≡ lane_before ++ lent_text wire c h ss) × (after ≡ before ++ steps_text kind wire c h ss))
+
+  pub said_none : (p : Player) (lane told : List ℕ) → Plays wire c p h → HasSaid kind wire c h p lane lane told told 0
+  said_none p lane told plays = record {
+    gone = record { steps = []; follow = tt; many = refl; plays = plays; text_is = sym (append-nil lane) };
+    told = sym (append-nil told);
+  }
+
+  module _ (p new : Player) (lane_before lane_now lane_after before now after : List ℕ) (n : ℕ) (has : HasSaid kind wire c h p lane_before lane_now before now n) where
+    pub said_on : Says kind wire c (has.gone.steps ++ h) new lane_now lane_after now after true → HasSaid kind wire c h new lane_before lane_after before after (n + 1)
+    said_on more = record {
+      gone = record {
+        steps = more.0 ∷ has.gone.steps;
+        follow = (has.gone.follow, more.1.0);
+        many = (let many = has.gone.many in omega arith);
+        plays = more.1.1;
+        text_is = more.1.2 ∙ (ap (λ x. x ++ lent_text wire c (has.gone.steps ++ h) (more.0 ∷ [])) has.gone.text_is
+            ∙ (append_assoc lane_before (lent_text wire c h has.gone.steps) (lent_text wire c (has.gone.steps ++ h) (more.0 ∷ []))
+            ∙ ap (λ x. lane_before ++ x) (sym (lent_more wire c h has.gone.steps more.0))));
+      };
+      told = more.1.3 ∙ (ap (λ x. x ++ steps_text kind wire c (has.gone.steps ++ h) (more.0 ∷ [])) has.told
+          ∙ append_assoc before (steps_text kind wire c h has.gone.steps) (steps_text kind wire c (has.gone.steps ++ h) (more.0 ∷ [])));
+    }
+
+    pub said_done : (count : Count) → n < most_steps count → Says kind wire c (has.gone.steps ++ h) new lane_now lane_after now after false
+        → Ends new lane_before lane_after before after count
+    said_done count few done = (
+      has.gone.steps,
+      (
+        up_to_all (writing wire c) (lent_text wire c) (lent_add wire c) wire c h p new lane_before lane_now lane_after n has.gone count few done.0,
+        done.1,
+        done.2 ∙ has.gone.text_is,
+        done.3 ∙ has.told,
+      ),
+    )
+
+  pub said_most : (p : Player) (lane_before lane_now before now : List ℕ) (count : Count) (has : HasSaid kind wire c h p lane_before lane_now before now (most_steps count))
+      → length has.gone.steps < most_steps Everything → Ends p lane_before lane_now before now count
+  said_most p lane_before lane_now before now count has few = (
+    has.gone.steps,
+    (
+      up_to_end (writing wire c) (lent_text wire c) (lent_add wire c) wire c h p lane_before lane_now count has.gone few,
+      has.gone.plays,
+      has.gone.text_is,
+      has.told,
+    ),
+  )
 
 -- ---- they are few
 

@@ -16,3 +16,6 @@ pub mod Written
 pub mod Fed
 pub mod Linked
 pub mod Pairs
+pub mod Traced
+pub mod Recorded
+pub mod Tellable

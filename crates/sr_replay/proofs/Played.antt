@@ -1,6 +1,6 @@
 -- What one step of an end makes of what a replay keeps of it.
 use Rattle.std.proofs.Common.{◌≡◌, ℕ, Bool, true, false, List, [], ◌∷◌, ◌++◌, length, Option, Some, None, refl, sym, ap, ◌∙◌, subst}
-use Rattle.std.specs.Prelude.{slice_get, is_some, option_map, if◌then◌else◌, OnOk, Result, Ok, Err}
+use Rattle.std.specs.Prelude.{slice_get, is_some, option_map, if◌then◌else◌, OnOk, OnErr, Result, Ok, Err}
 use Rattle.hm_message.specs.declared.message.Message.{Message}
 use Rattle.hd_delivery.specs.declared.vocabulary.Reason.TheVariants.{Done}
 use Rattle.hd_delivery.specs.Histories as of
@@ -122,3 +122,8 @@ ticking_says_nothing wire c h now = both (λ s. SaysNothing wire c h (Does s ∷
 pub on_ok : {A E P Q R : Type 0} (result : Result A E) → (P → Q → R) → OnOk result P → OnOk result Q → OnOk result R
 on_ok (Ok a) f p q = f p q
 on_ok (Err e) f p q = tt
+
+-- what holds anyway holds at Err
+pub on_err : {A E P : Type 0} (result : Result A E) → P → OnErr result P
+on_err (Ok a) p = tt
+on_err (Err e) p = p

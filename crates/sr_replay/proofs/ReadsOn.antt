@@ -11,7 +11,10 @@ use Rattle.hd_delivery.specs.Laws.{FedIsUnseen}
 use Rattle.sr_replay.specs.declared.player.Player.{Player}
 use Rattle.hd_delivery.specs.Following.{Next, Follow, FollowAll}
 use Rattle.hd_delivery.specs.Alone.{taking, reading}
-use Rattle.sr_replay.specs.Plays.{Plays, Feeds, steps_text}
+use Rattle.sr_replay.specs.declared.text_kind.TextKind.{TextKind}
+use Rattle.sr_replay.specs.Runs.{Makes}
+use Rattle.sr_replay.specs.Told.{told_text, steps_text}
+use Rattle.sr_replay.specs.Plays.{Plays, Feeds}
 use Rattle.sr_replay.proofs.Feeding.{follow_append, text_append, taken_follow, ends}
 
 -- ---- the bytes of the link
@@ -39,11 +42,11 @@ module _ (wire : Wire) (c : of.Config) (l : ℕ) where
 -- ---- so far
 
 -- this many of the bytes that are to be read were read, and every frame that came was taken
-pub record HasRead (limits : Limits) (wire : Wire) (c : of.Config) (h : List ByteStep) (p : Player) (l : ℕ) (all before now : List ℕ) (at : ℕ) : Type 0 where
+pub record HasRead (kind : TextKind) (limits : Limits) (wire : Wire) (c : of.Config) (h : List ByteStep) (p : Player) (l : ℕ) (all before now : List ℕ) (at : ℕ) : Type 0 where
   pub steps : List ByteStep
   pub follow : Follow (reading limits wire c all) h steps
   pub plays : Plays wire c p (steps ++ h)
-  pub text_is : now ≡ before ++ steps_text c.side h steps
+  pub text_is : now ≡ before ++ steps_text kind wire c h steps
   pub none : processes c (in_frames wire c (steps ++ h)) ≡ None
   pub here : present_link (in_frames wire c (steps ++ h)) ≡ Some l
   pub read : length (bytes_on l (steps ++ h)) ≡ length (bytes_on l h) + at
@@ -53,9 +56,9 @@ feeds_bytes : (next : Next ByteStep) (wire : Wire) (c : of.Config) (h : List Byt
 feeds_bytes next wire c h new [] some fed = absurd (omega arith)
 feeds_bytes next wire c h new (b ∷ bytes) some fed = fed
 
-module _ (limits : Limits) (wire : Wire) (c : of.Config) (h : List ByteStep) (l : ℕ) (all before : List ℕ) where
+module _ (kind : TextKind) (limits : Limits) (wire : Wire) (c : of.Config) (h : List ByteStep) (l : ℕ) (all before : List ℕ) where
   pub read_none : (p : Player) → Plays wire c p h → present_link (in_frames wire c h) ≡ Some l → processes c (in_frames wire c h) ≡ None
-      → HasRead limits wire c h p l all before before 0
+      → HasRead kind limits wire c h p l all before before 0
   read_none p plays at none = record {
     steps = [];
     follow = tt;
@@ -66,13 +69,13 @@ module _ (limits : Limits) (wire : Wire) (c : of.Config) (h : List ByteStep) (l 
     read = omega arith;
   }
 
-  module _ (p : Player) (now : List ℕ) (at : ℕ) (has : HasRead limits wire c h p l all before now at) where
+  module _ (p : Player) (now : List ℕ) (at : ℕ) (has : HasRead kind limits wire c h p l all before now at) where
     -- the bytes that are left are those that are to be read next
     pub left : (bytes : List ℕ) → bytes ≡ drop (length (bytes_on l h)) all → drop at bytes ≡ drop (length (bytes_on l (has.steps ++ h))) all
     left bytes is = ap (drop at) is ∙ (drop-drop at (length (bytes_on l h)) all ∙ ap (λ n. drop n all) (sym has.read))
 
     pub read_end : (bytes : List ℕ) → bytes ≡ drop (length (bytes_on l h)) all → length bytes ≤ at
-        → (ss : List ByteStep) × (FollowAll (reading limits wire c all) h ss × Plays wire c p (ss ++ h) × (now ≡ before ++ steps_text c.side h ss))
+        → (ss : List ByteStep) × (FollowAll (reading limits wire c all) h ss × Plays wire c p (ss ++ h) × (now ≡ before ++ steps_text kind wire c h ss))
     read_end bytes is end =
         let gone : drop (length (bytes_on l (has.steps ++ h))) all ≡ [] = sym (left bytes is) ∙ drop_all at bytes end in
         let last = ends limits wire c all (has.steps ++ h) l has.none has.here gone (is_closed c (in_frames wire c (has.steps ++ h))) refl in
@@ -80,10 +83,10 @@ module _ (limits : Limits) (wire : Wire) (c : of.Config) (h : List ByteStep) (l 
 
     -- nothing can be fed any more
     pub read_stop : (new : Player) → Feeds (reading limits wire c all) wire c (has.steps ++ h) new []
-        → (ss : List ByteStep) × (FollowAll (reading limits wire c all) h ss × Plays wire c new (ss ++ h) × (now ≡ before ++ steps_text c.side h ss))
+        → (ss : List ByteStep) × (FollowAll (reading limits wire c all) h ss × Plays wire c new (ss ++ h) × (now ≡ before ++ steps_text kind wire c h ss))
     read_stop new fed = (has.steps, ((has.follow, fed.0), fed.1, has.text_is))
 
-    module _ (unseen : FedIsUnseen) (mid new : Player) (piece after : List ℕ) (some : 0 < length piece)
+    module _ (unseen : FedIsUnseen) (mid new : Player) (piece between after : List ℕ) (some : 0 < length piece)
         (fed : Feeds (reading limits wire c all) wire c (has.steps ++ h) mid piece) (link : new.link ≡ p.link) (n : ℕ) (many : length piece ≡ n) where
       abbrev then_fed : List ByteStep
       then_fed = Bytes piece ∷ has.steps
@@ -94,9 +97,10 @@ module _ (limits : Limits) (wire : Wire) (c : of.Config) (h : List ByteStep) (l 
       pub plays_fed : Plays wire c mid (then_fed ++ h)
       plays_fed = was_fed.1
 
-      pub read_on : (ss : List ByteStep) × (FollowAll (taking wire c) (then_fed ++ h) ss × Plays wire c new (ss ++ (then_fed ++ h))
-          × (after ≡ now ++ steps_text c.side (then_fed ++ h) ss)) → HasRead limits wire c h new l all before after (at + n)
-      read_on took =
+      pub read_on : between ≡ now ++ told_text kind wire c (has.steps ++ h) (Makes (Bytes piece))
+          → (ss : List ByteStep) × (FollowAll (taking wire c) (then_fed ++ h) ss × Plays wire c new (ss ++ (then_fed ++ h))
+          × (after ≡ between ++ steps_text kind wire c (then_fed ++ h) ss)) → HasRead kind limits wire c h new l all before after (at + n)
+      read_on told took =
           let ss = took.0 in
           let x = then_fed ++ h in
           let taken = took.1.0.0 in
@@ -107,14 +111,16 @@ module _ (limits : Limits) (wire : Wire) (c : of.Config) (h : List ByteStep) (l 
           (let e = ap length bytes in let f = has.read in let m = many in omega (arith, length-append (bytes_on l (has.steps ++ h)) piece)) in
           let on : present_link (in_frames wire c (ss ++ x)) ≡ Some l =
           sym took.1.1.link_is ∙ (link ∙ (has.plays.link_is ∙ has.here)) in
-          let text : steps_text c.side h (ss ++ then_fed) ≡ steps_text c.side h has.steps ++ steps_text c.side x ss =
-          text_append c.side h then_fed ss ∙ ap (λ t. t ++ steps_text c.side x ss) (append-nil (steps_text c.side h has.steps)) in
+          let first = steps_text kind wire c h has.steps in
+          let line = told_text kind wire c (has.steps ++ h) (Makes (Bytes piece)) in
+          let rest = steps_text kind wire c x ss in
+          let with_line : between ≡ before ++ (first ++ line) = told ∙ (ap (λ t. t ++ line) has.text_is ∙ append_assoc before first line) in
           record {
             steps = ss ++ then_fed;
             follow = follow_append (reading limits wire c all) h then_fed ss (has.follow, was_fed.0) (taken_follow limits wire c all x ss taken);
             plays = subst (λ k. Plays wire c new k) (sym there) took.1.1;
-            text_is = took.1.2 ∙ (ap (λ t. t ++ steps_text c.side x ss) has.text_is
-                ∙ (append_assoc before (steps_text c.side h has.steps) (steps_text c.side x ss) ∙ ap (λ t. before ++ t) (sym text)));
+            text_is = took.1.2 ∙ (ap (λ t. t ++ rest) with_line ∙ (append_assoc before (first ++ line) rest
+                ∙ ap (λ t. before ++ t) (sym (text_append kind wire c h then_fed ss))));
             none = ap (λ k. processes c (in_frames wire c k)) there ∙ no_step (processes c (in_frames wire c (ss ++ x))) took.1.0.1;
             here = ap (λ k. present_link (in_frames wire c k)) there ∙ on;
             read = ap (λ k. length (bytes_on l k)) there ∙ size;

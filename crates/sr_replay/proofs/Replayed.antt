@@ -16,13 +16,14 @@ use Rattle.sr_replay.specs.Follows.{Follows, IsOfEnds}
 use Rattle.sr_replay.specs.Replays.{ActsAll, HasSettings, IsForEnds, Obeys}
 
 -- one line more was obeyed
-pub obeyed : (x : Asked) (p : Program) (old before new : Pair) → MayCome p x → ActsAll old p.actions before → Obeys before x new
-    → ActsAll old (and_then p x).actions new
-obeyed (asked.Setting s) p old before new may acts same = λ limits wire t begun.
-    subst (λ pair. (r : Run) × Follows limits wire t [] r pair) (sym same) (subst (λ actions. (r : Run) × Follows limits wire t actions r before) may.1 (acts limits wire t begun))
-obeyed (asked.Action a) p old before new may acts goes = λ limits wire t begun.
-    let run = acts limits wire t begun in
-    let made = goes limits wire t p.actions run.0 run.1 may.0 in
+pub obeyed : (x : Asked) (p : Program) (old before new : Pair) (gone : List ℕ) → MayCome p x → ActsAll old p.actions gone before → Obeys before x new
+    → ActsAll old (and_then p x).actions gone new
+obeyed (asked.Setting s) p old before new gone may acts same = λ kind limits wire t begun.
+    subst (λ pair. (r : Run) × Follows kind gone limits wire t [] r pair) (sym same)
+    (subst (λ actions. (r : Run) × Follows kind gone limits wire t actions r before) may.1 (acts kind limits wire t begun))
+obeyed (asked.Action a) p old before new gone may acts goes = λ kind limits wire t begun.
+    let run = acts kind limits wire t begun in
+    let made = goes kind gone limits wire t p.actions run.0 run.1 may.0 in
     (made.0 ++ run.0, made.1.1)
 
 -- ---- options

@@ -14,8 +14,7 @@ use Rattle.sr_replay.specs.declared.player.Player.{Player}
 use Rattle.hd_delivery.specs.AloneLaws.{LentComesLast, LentStays}
 use Rattle.hd_delivery.specs.Following.{Next, Follow, FollowUpTo}
 use Rattle.hd_delivery.specs.Alone.{writing}
-use Rattle.hd_delivery.specs.declared.vocabulary.Side.{Side}
-use Rattle.sr_replay.specs.Plays.{Plays, limits_at, steps_text}
+use Rattle.sr_replay.specs.Plays.{Plays, limits_at}
 use Rattle.hd_delivery.specs.Alone.{lent_text}
 use Rattle.sr_replay.specs.Follows.{IsPlayed}
 use Rattle.sr_script.specs.Script.{most_of}
@@ -84,9 +83,3 @@ said_elsewhere stays limits wire c l j h (s ∷ ss) at apart lent i = absurd len
 pub none_written : (count : Count) (wire : Wire) (c : of.Config) (h : List ByteStep) → present_link (in_frames wire c h) ≡ None → FollowUpTo (most_of count) (writing wire c) h []
 none_written Everything wire c h at = (tt, ap (option_map (λ f. Does (Lent f))) (ap (due_on c (in_frames wire c h)) at))
 none_written (UpTo n) wire c h at = inr ((tt, ap (option_map (λ f. Does (Lent f))) (ap (due_on c (in_frames wire c h)) at)), zero-le)
-
--- and of what is written nothing is reported
-pub silent : (side : Side) (h ss : List ByteStep) → AreLent ss → steps_text side h ss ≡ []
-silent side h [] lent = refl
-silent side h (Does (Lent f) ∷ ss) lent = append-nil (steps_text side h ss) ∙ silent side h ss lent
-silent side h (s ∷ ss) lent = absurd lent

@@ -16,7 +16,8 @@ use Rattle.sr_replay.specs.declared.pair.Pair.{Pair}
 use Rattle.sr_script.specs.Script.{opened, moment_after, IsInTurn, AreInTurn}
 use Rattle.sr_replay.specs.Runs.{Makes, Refuses, Run, Runs, Acts, attaching, world_of}
 use Rattle.hd_delivery.specs.Sides.{history}
-use Rattle.sr_replay.specs.Report.{run_text}
+use Rattle.sr_replay.specs.Told.{told_run}
+use Rattle.sr_replay.specs.declared.text_kind.TextKind.{TextKind}
 use Rattle.sr_replay.specs.Plays.{Plays, limits_at}
 
 -- ---- one end
@@ -62,12 +63,13 @@ pub record Holds (limits : Limits) (wire : Wire) (t : Terms) (actions : List Act
   pub lanes : (l : ℕ) (lane : LinkBytes) → slice_get p.lanes.items l ≡ Some lane → IsLane wire t c s l lane
   pub now : p.now ≡ moment_after actions
 
--- after these actions the pair stands for their run, and its report is the text of it
-pub record Follows (limits : Limits) (wire : Wire) (t : Terms) (actions : List Action) (r : Run) (p : Pair) : Type 0 where
+-- After these actions the pair stands for their run, of which it tells in a text of this kind. A first part of that was taken away from it.
+pub record Follows (kind : TextKind) (gone : List ℕ) (limits : Limits) (wire : Wire) (t : Terms) (actions : List Action) (r : Run) (p : Pair) : Type 0 where
   pub turns : AreInTurn actions
   pub runs : Runs limits wire t actions r
   pub holds : Holds limits wire t actions (history Client (world_of r)) (history Server (world_of r)) p
-  pub report : p.report.items ≡ run_text r
+  pub kind_is : p.kind ≡ kind
+  pub told : gone ++ p.told.items ≡ told_run kind wire t r
 
 -- an action of ends alone: no call goes, and a message that is sent is sequenced and fits into a frame
 abbrev pub IsOfEnds : Action → Type 0
@@ -80,5 +82,11 @@ IsOfEnds a = IsWhole a
 
 -- whatever actions and run the pair stood for, it now stands for one action more, and for what that made after the run
 abbrev pub GoesOn : Pair → Action → Pair → Type 0
-GoesOn old a new = (limits : Limits) (wire : Wire) (t : Terms) (actions : List Action) (r : Run) → Follows limits wire t actions r old → IsInTurn actions a
-    → (made : Run) × (Acts limits wire t actions r a made × Follows limits wire t (a ∷ actions) (made ++ r) new)
+GoesOn old a new = (kind : TextKind) (gone : List ℕ) (limits : Limits) (wire : Wire) (t : Terms) (actions : List Action) (r : Run)
+    → Follows kind gone limits wire t actions r old → IsInTurn actions a
+    → (made : Run) × (Acts limits wire t actions r a made × Follows kind gone limits wire t (a ∷ actions) (made ++ r) new)
+
+-- these bytes were taken away from what it told
+abbrev pub HandsOut : Pair → List ℕ → Pair → Type 0
+HandsOut old bytes new = (kind : TextKind) (gone : List ℕ) (limits : Limits) (wire : Wire) (t : Terms) (actions : List Action) (r : Run)
+    → Follows kind gone limits wire t actions r old → Follows kind (gone ++ bytes) limits wire t actions r new

@@ -16,6 +16,7 @@ use Rattle.sr_notation.specs.Terms.{limits_in, terms_in}
 use Rattle.hd_delivery.specs.Sides.{frames_at}
 use Rattle.sr_replay.specs.Runs.{Run, Runs, world_of}
 use Rattle.sr_replay.specs.Report.{report_text, IsReportOver, IsReport, IsReportOf}
+use Rattle.sr_replay.specs.Trace.{IsTrace, IsTold}
 
 -- ---- runs
 
@@ -38,6 +39,15 @@ RunsAreWorlds = (limits : Limits) (wire : Wire) (t : Terms) (actions : List Acti
 -- a script without peers has one report
 abbrev pub ReportsOnce : Type 0
 ReportsOnce = (p : Program) (x y : List ℕ) → IsReport p x → IsReport p y → x ≡ y
+
+-- and one trace
+abbrev pub TracesOnce : Type 0
+TracesOnce = (p : Program) (x y : List ℕ) → IsTrace p x → IsTrace p y → x ≡ y
+
+-- its lines tell a world
+abbrev pub TracesTell : Type 0
+TracesTell = (script : List ℕ) (p : Program) (text : List ℕ) → Parses script p → IsTrace p text
+    → (wire : Wire) → IsHouseWire (limits_in p.settings).frame wire → IsTold wire p text
 
 -- a report has a line at least
 abbrev pub ReportsHaveLines : Type 0

@@ -1,8 +1,11 @@
 pub mod Runs
 pub mod Report
+pub mod Trace
+pub mod Told
 pub mod Laws
 pub mod Follows
 pub mod Plays
 pub mod Replays
+pub mod Records
 pub mod WithPeers
 pub mod Words

@@ -12,6 +12,7 @@ use Rattle.sr_script.specs.declared.line.Asked.TheVariants as asked
 use Rattle.sr_replay.specs.declared.pair.Pair.{Pair}
 use Rattle.sr_script.specs.Script.{Program, Parses}
 use Rattle.sr_replay.specs.Runs.{Run}
+use Rattle.sr_replay.specs.declared.text_kind.TextKind.{TextKind}
 use Rattle.sr_notation.specs.Terms.{codec_in, version_in, reconnect_in, limits_in, peers_in, terms_in}
 use Rattle.sr_replay.specs.Follows.{Follows, GoesOn, IsOfEnds}
 
@@ -23,9 +24,14 @@ pub record Begins (settings : List Setting) (config : Config) : Type 0 where
   pub limits : config.limits ≡ limits_in settings
   pub spoken : IsVersion config.version
 
--- two ends that stood for no action stand for these
-abbrev pub ActsAll : Pair → List Action → Pair → Type 0
-ActsAll old actions new = (limits : Limits) (wire : Wire) (t : Terms) → Follows limits wire t [] [] old → (r : Run) × Follows limits wire t actions r new
+-- over each wire of this project the two ends are begun as the program's options say, stand for no action, and tell so
+abbrev pub IsBegun : TextKind → Program → Pair → Type 0
+IsBegun kind p pair = (wire : Wire) → IsHouseWire (limits_in p.settings).frame wire → Follows kind [] (limits_in p.settings) wire (terms_in p.settings) [] [] pair
+
+-- two ends that stood for no action stand for these, and so much was taken away from what they told
+abbrev pub ActsAll : Pair → List Action → List ℕ → Pair → Type 0
+ActsAll old actions gone new = (kind : TextKind) (limits : Limits) (wire : Wire) (t : Terms) → Follows kind [] limits wire t [] [] old
+    → (r : Run) × Follows kind gone limits wire t actions r new
 
 -- the text is no script with peers
 abbrev pub IsWithoutPeers : List ℕ → Type 0
@@ -45,7 +51,7 @@ abbrev pub Obeys : Pair → Asked → Pair → Type 0
 Obeys old (asked.Setting s) new = new ≡ old
 Obeys old (asked.Action a) new = GoesOn old a new
 
--- over each wire of this project the two ends stand for the run of the program's actions
-abbrev pub Reaches : Program → Pair → Type 0
-Reaches p pair = (wire : Wire) → IsHouseWire (limits_in p.settings).frame wire
-    → (r : Run) × Follows (limits_in p.settings) wire (terms_in p.settings) p.actions r pair
+-- over each wire of this project the two ends stand for the run of the program's actions, of which they tell so
+abbrev pub Reaches : TextKind → Program → Pair → Type 0
+Reaches kind p pair = (wire : Wire) → IsHouseWire (limits_in p.settings).frame wire
+    → (r : Run) × Follows kind [] (limits_in p.settings) wire (terms_in p.settings) p.actions r pair

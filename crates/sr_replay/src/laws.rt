@@ -1,10 +1,11 @@
 //! What holds of runs and of their reports. No function here does anything: its contract is the law.
 
-ghost use Rattle.sr_replay.specs.Laws.{EndsReport, ReportsHaveLines, ReportsOnce, RunsAreWorlds, RunsOnce};
+ghost use Rattle.sr_replay.specs.Laws.{EndsReport, ReportsHaveLines, ReportsOnce, RunsAreWorlds, RunsOnce, TracesOnce, TracesTell};
 
 use hd_delivery::{
     fed_is_lent, frames_are_taken, unread_grows, unread_is_bounded, worlds_are_histories,
 };
+use hd_trace::records_tell;
 use he_end::{End, ends_deliver};
 use he_wire::{has_wire, wire_is_sound};
 use sr_script::{scripts_are_in_turn, scripts_are_settled};
@@ -30,6 +31,22 @@ pub fn reports_once()
     ensures { ReportsOnce }
 {
     has_wire();
+}
+
+/// A script without peers has one trace.
+pub fn traces_once()
+    ensures { TracesOnce }
+{
+    has_wire();
+}
+
+/// The lines of a script's trace tell a world of two ends, so whoever judges them by what ends can do finds none that breaks off.
+pub fn traces_tell()
+    ensures { TracesTell }
+{
+    frames_are_taken();
+    records_tell();
+    scripts_are_in_turn();
 }
 
 /// Where these ends stand for a script's run, the text of the run is the script's report.

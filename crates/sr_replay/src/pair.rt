@@ -1,7 +1,7 @@
 //! The two ends of a replay and what is kept of the links between them: what each action of a script makes of these. It
 //! doesn't know texts.
 
-ghost use Rattle.std.specs.Prelude.{◌≡◌, ◌≤◌, ◌<◌, ◌++◌, ℕ, Bool, true, false, List, [], ◌∷◌, length, take, IfOk, OnOk, codes, if◌then◌else◌};
+ghost use Rattle.std.specs.Prelude.{◌≡◌, ◌≤◌, ◌<◌, ◌++◌, ℕ, Bool, true, false, List, [], ◌∷◌, length, take, IfOk, OnOk, if◌then◌else◌};
 ghost use Rattle.hm_message.specs.Message.{is_sequenced, Fits};
 ghost use Rattle.hs_shake.specs.Requests.{IsVersion};
 ghost use Rattle.hd_delivery.specs.Histories as of;
@@ -14,19 +14,23 @@ ghost use Rattle.sr_script.specs.declared.action.Action.{Action};
 ghost use Rattle.sr_script.specs.declared.action.Action.TheVariants as action;
 ghost use Rattle.sr_script.specs.Script.{Program, Parses, opened, most_of};
 ghost use Rattle.sr_notation.specs.Terms.{limits_in, terms_in};
-ghost use Rattle.sr_replay.specs.Runs.{Doing, Run, attaching, ticking, steps_of, Sending, read_in_all};
+ghost use Rattle.sr_replay.specs.Runs.{Doing, Run, attaching, closing, losing, ticking, steps_of, Sending, read_in_all};
+ghost use Rattle.sr_replay.specs.declared.text_kind.TextKind.TheVariants as kinds;
+ghost use Rattle.sr_replay.specs.declared.text_kind.TextKind.{TextKind};
+ghost use Rattle.sr_replay.specs.Told.{told_text, doings_text, steps_text};
 ghost use Rattle.hd_delivery.specs.Following.{FollowAll, FollowUpTo};
 ghost use Rattle.hd_delivery.specs.Alone.{writing, reading};
 ghost use Rattle.hd_delivery.specs.Sides.{other};
 ghost use Rattle.sr_lines.specs.Lines.{standing_text};
-ghost use Rattle.sr_replay.specs.Report.{IsReportOver, doing_text, report_text};
-ghost use Rattle.sr_replay.specs.Plays.{Plays, OfEach, limits_at, steps_text};
+ghost use Rattle.sr_replay.specs.Report.{IsReportOver, report_text};
+ghost use Rattle.sr_replay.specs.Plays.{Plays, OfEach, limits_at};
 ghost use Rattle.hd_delivery.specs.Alone.{lent_text};
-ghost use Rattle.sr_replay.specs.Follows.{Follows, GoesOn, IsOfEnds, MayRead, Tries, said_by};
+ghost use Rattle.sr_replay.specs.Follows.{Follows, GoesOn, HandsOut, IsOfEnds, MayRead, Tries, said_by};
 ghost use Rattle.sr_peers.specs.Begun.{terms_of};
 
 use crate::laws::{ends_report, runs_are_worlds};
 use crate::player::Player;
+use crate::text_kind::TextKind;
 use hd_delivery::{
     Side, State, facts_hold, fed_is_lent, fed_is_unseen, frames_are_taken, lent_comes_last,
     lent_stays, taken_has_room, unused_is_empty, unused_is_untouched,
@@ -34,7 +38,7 @@ use hd_delivery::{
 use he_end::{Config, SendError};
 use he_wire::wire_is_sound;
 use hm_message::Message;
-use sr_lines::{push_refused_attach, push_refused_send, push_sent, push_silent, push_standing};
+use sr_lines::push_standing;
 use sr_script::{Action, Count};
 use std::alloc::{AllocError, Global};
 
@@ -47,9 +51,10 @@ pub(crate) struct LinkBytes {
     opened: bool,
 }
 
-/// The two ends, the links between them, and the report of what happened so far.
+/// The two ends, the links between them, and what was told of what happened so far.
 #[derive(Drop)]
 pub(crate) struct Pair {
+    kind: TextKind,
     client: Player,
     server: Player,
     // how many bytes of its present link each end has read
@@ -59,34 +64,77 @@ pub(crate) struct Pair {
     lanes: Vec<LinkBytes>,
     // the latest moment, in milliseconds
     now: u64,
-    report: Vec<u8>,
+    told: Vec<u8>,
 }
 
-/// Takes a link, and reads it from its first byte; or reports why not.
+/// Takes a link, and reads it from its first byte; or tells why not.
 fn attach(
     alloc: Global,
+    kind: TextKind,
     player: &mut Player,
-    side: Side,
     link: u64,
     now: u64,
     place: &mut usize,
-    report: &mut Vec<u8>,
+    told: &mut Vec<u8>,
 ) -> Result<bool, AllocError>
     ensures attaches { IfOk result (λ taken. OfEach player.old (λ wire c h. let k = in_frames wire c h in was_on link k ≡ false → of.moment k ≤ now →
         Plays wire c player.new (steps_of (attaching c k link now ∷ []) ++ h) × Tries c k link now taken place.old place.new
-        × (report.new.items ≡ report.old.items ++ doing_text side (bare_steps h) (attaching c k link now)))) }
+        × (told.new.items ≡ told.old.items ++ told_text kind wire c h (attaching c k link now)))) }
     ensures limits { OnOk result (limits_at player.new ≡ limits_at player.old) }
 {
+    let side = player.side();
     match player.attach(link, now) {
         Ok(()) => {
             *place = 0;
+            kind.push_attached(alloc, told, side, link)?;
             Ok(true)
         }
         Err(why) => {
-            push_refused_attach(alloc, report, side, &why)?;
+            kind.push_refused_attach(alloc, told, side, &why)?;
             Ok(false)
         }
     }
+}
+
+/// Loses the link, if there is one, and tells it.
+fn lose(
+    alloc: Global,
+    kind: TextKind,
+    player: &mut Player,
+    now: u64,
+    told: &mut Vec<u8>,
+) -> Result<(), AllocError>
+    ensures loses { OnOk result (OfEach player.old (λ wire c h. let k = in_frames wire c h in of.moment k ≤ now →
+        Plays wire c player.new (steps_of (losing k now) ++ h) × (told.new.items ≡ told.old.items ++ doings_text kind wire c h (losing k now)))) }
+    ensures limits { OnOk result (limits_at player.new ≡ limits_at player.old) }
+{
+    let side = player.side();
+    let link = player.link();
+    player.lose(now);
+    match link {
+        Some(_) => kind.push_detached(alloc, told, side),
+        None => Ok(()),
+    }
+}
+
+/// Closes an end, if it isn't closed, and tells it.
+fn close(
+    alloc: Global,
+    kind: TextKind,
+    player: &mut Player,
+    told: &mut Vec<u8>,
+) -> Result<(), AllocError>
+    ensures closes { OnOk result (OfEach player.old (λ wire c h. let k = in_frames wire c h in
+        Plays wire c player.new (steps_of (closing c k) ++ h) × (told.new.items ≡ told.old.items ++ doings_text kind wire c h (closing c k)))) }
+    ensures limits { OnOk result (limits_at player.new ≡ limits_at player.old) }
+{
+    let side = player.side();
+    let was_closed = is_closed(player);
+    player.close();
+    if was_closed {
+        return Ok(());
+    }
+    kind.push_closed(alloc, told, side)
 }
 
 /// Whether it is a cause that the script has, and not want of memory.
@@ -115,61 +163,71 @@ fn is_closed(player: &Player) -> bool
     }
 }
 
-/// Sends a message, and reports its number or why it isn't sent.
+/// Sends a message, and tells it, or why it isn't sent.
 fn send(
     alloc: Global,
+    kind: TextKind,
     player: &mut Player,
-    side: Side,
     message: &Message,
-    report: &mut Vec<u8>,
+    told: &mut Vec<u8>,
 ) -> Result<(), AllocError>
     requires sequenced { is_sequenced message.now ≡ true }
     requires fits { Fits message.now }
     ensures sends { OnOk result (OfEach player.old (λ wire c h. (d : Doing) × (Sending (limits_at player.old) wire c (in_frames wire c h) message.now d
-        × Plays wire c player.new (steps_of (d ∷ []) ++ h) × (report.new.items ≡ report.old.items ++ doing_text side (bare_steps h) d)))) }
+        × Plays wire c player.new (steps_of (d ∷ []) ++ h) × (told.new.items ≡ told.old.items ++ told_text kind wire c h d)))) }
     ensures limits { OnOk result (limits_at player.new ≡ limits_at player.old) }
 {
     fed_is_unseen();
+    let side = player.side();
     match player.send(alloc, message) {
-        Ok(number) => push_sent(alloc, report, side, number),
+        Ok(number) => kind.push_sent(alloc, told, side, number, message),
         Err(why) => {
             if !is_cause(&why) {
                 return Err(AllocError);
             }
-            push_refused_send(alloc, report, side, &why)
+            kind.push_refused_send(alloc, told, side, &why)
         }
     }
 }
 
-/// Lets a moment come, and reports a silence.
-fn tick(player: &mut Player, side: Side, now: u64, report: &mut Vec<u8>) -> Result<(), AllocError>
+/// Lets a moment come, and tells it.
+fn tick(
+    alloc: Global,
+    kind: TextKind,
+    player: &mut Player,
+    now: u64,
+    told: &mut Vec<u8>,
+) -> Result<(), AllocError>
     ensures ticks { OnOk result (OfEach player.old (λ wire c h. let k = in_frames wire c h in of.moment k ≤ now →
         Plays wire c player.new (steps_of (ticking c k now ∷ []) ++ h)
-        × (report.new.items ≡ report.old.items ++ doing_text side (bare_steps h) (ticking c k now)))) }
+        × (told.new.items ≡ told.old.items ++ told_text kind wire c h (ticking c k now)))) }
     ensures limits { OnOk result (limits_at player.new ≡ limits_at player.old) }
 {
-    if player.tick(now) {
-        push_silent(report, side)?;
-    }
-    Ok(())
+    let side = player.side();
+    let silent = player.tick(now);
+    kind.push_ticked(alloc, told, side, silent, now)
 }
 
-/// Writes on a link.
+/// Writes on a link, and tells it.
 fn write(
+    alloc: Global,
+    kind: TextKind,
     player: &mut Player,
     side: Side,
     count: Count,
     lane: &mut LinkBytes,
+    told: &mut Vec<u8>,
 ) -> Result<(), AllocError>
     ensures writes { OnOk result (OfEach player.old (λ wire c h. (ss : List ByteStep) × (FollowUpTo (most_of count) (writing wire c) h ss
-        × Plays wire c player.new (ss ++ h) × (said_by side lane.new ≡ said_by side lane.old ++ lent_text wire c h ss)))) }
+        × Plays wire c player.new (ss ++ h) × (said_by side lane.new ≡ said_by side lane.old ++ lent_text wire c h ss)
+        × (told.new.items ≡ told.old.items ++ steps_text kind wire c h ss)))) }
     ensures other { said_by (other side) lane.new ≡ said_by (other side) lane.old }
     ensures opened { lane.new.opened ≡ lane.old.opened }
     ensures limits { OnOk result (limits_at player.new ≡ limits_at player.old) }
 {
     match side {
-        Side::Client => player.write(count, &mut lane.to_server),
-        Side::Server => player.write(count, &mut lane.to_client),
+        Side::Client => player.write(alloc, kind, count, &mut lane.to_server, told),
+        Side::Server => player.write(alloc, kind, count, &mut lane.to_client, told),
     }
 }
 
@@ -186,18 +244,19 @@ fn end_of_read(count: Count, place: usize, len: usize) -> usize
     }
 }
 
-/// Reads on from this place of a link, and reports what it gives. A closed end reads nothing.
+/// Reads on from this place of a link, and tells what it gives. A closed end reads nothing.
 fn read(
     alloc: Global,
+    kind: TextKind,
     player: &mut Player,
     count: Count,
     said: &[u8],
     place: &mut usize,
-    report: &mut Vec<u8>,
+    told: &mut Vec<u8>,
 ) -> Result<(), AllocError>
     ensures reads { OnOk result (OfEach player.old (λ wire c h. (l : ℕ) → MayRead wire c h l place.old said.now →
         (ss : List ByteStep) × (FollowAll (reading (limits_at player.old) wire c (read_in_all count (length (bytes_on l h)) said.now)) h ss
-        × Plays wire c player.new (ss ++ h) × (report.new.items ≡ report.old.items ++ steps_text c.side h ss)
+        × Plays wire c player.new (ss ++ h) × (told.new.items ≡ told.old.items ++ steps_text kind wire c h ss)
         × (is_closed c (in_frames wire c h) ≡ false → place.new ≡ length (read_in_all count (length (bytes_on l h)) said.now))))) }
     ensures limits { OnOk result (limits_at player.new ≡ limits_at player.old) }
 {
@@ -206,7 +265,7 @@ fn read(
     }
     let end = end_of_read(count, *place, said.len());
     let from = (*place).min(end);
-    player.read(alloc, &said[from..end], report)?;
+    player.read(alloc, kind, &said[from..end], told)?;
     *place = end;
     Ok(())
 }
@@ -229,18 +288,20 @@ fn stand(alloc: Global, player: &Player, side: Side, report: &mut Vec<u8>) -> Re
 
 impl Pair {
     /// Two ends that are begun alike, before their first link.
-    pub(crate) fn start(alloc: Global, config: Config) -> Result<Pair, AllocError>
+    pub(crate) fn start(alloc: Global, kind: TextKind, config: Config) -> Result<Pair, AllocError>
         requires { IsVersion config.version }
-        ensures { IfOk result (λ pair. (wire : Wire) → IsHouseWire config.limits.frame wire → Follows config.limits wire (terms_of config) [] [] pair) }
+        ensures { IfOk result (λ pair. (wire : Wire) → IsHouseWire config.limits.frame wire →
+            Follows kind [] config.limits wire (terms_of config) [] [] pair) }
     {
         Ok(Pair {
+            kind,
             client: Player::start(alloc, Side::Client, config)?,
             server: Player::start(alloc, Side::Server, config)?,
             client_place: 0,
             server_place: 0,
             lanes: Vec::new(alloc),
             now: 0,
-            report: Vec::new(alloc),
+            told: Vec::new(alloc),
         })
     }
 
@@ -252,18 +313,12 @@ impl Pair {
         match action {
             Action::Open => self.open(alloc),
             Action::Accept(link) => self.accept(alloc, *link),
-            Action::Lose(side) => {
-                self.lose(*side);
-                Ok(())
-            }
-            Action::Write(side, count) => self.write(*side, *count),
+            Action::Lose(side) => self.lose(alloc, *side),
+            Action::Write(side, count) => self.write(alloc, *side, *count),
             Action::Read(side, count) => self.read(alloc, *side, *count),
-            Action::Close(side) => {
-                self.close(*side);
-                Ok(())
-            }
+            Action::Close(side) => self.close(alloc, *side),
             Action::Send(side, message) => self.send(alloc, *side, message),
-            Action::Tick(now) => self.tick(*now),
+            Action::Tick(now) => self.tick(alloc, *now),
             Action::Call(_, _) => unreachable!(),
             Action::Item(_, _, _) => unreachable!(),
             Action::Done(_, _) => unreachable!(),
@@ -272,29 +327,45 @@ impl Pair {
         }
     }
 
+    /// What it told and that wasn't taken away yet.
+    pub(crate) fn told(&self) -> &[u8]
+        ensures { result.now ≡ self.entry.now.told.items }
+    {
+        &self.told
+    }
+
+    /// Takes away what it told.
+    pub(crate) fn clear_told(&mut self)
+        ensures hands_out { HandsOut self.old self.old.told.items self.new }
+        ensures empty { self.new.told.items ≡ [] }
+    {
+        self.told.clear();
+    }
+
     /// How many links were opened.
     pub(crate) fn links(&self) -> u64
-        ensures { (limits : Limits) (wire : Wire) (t : Terms) (actions : List Action) (r : Run) → Follows limits wire t actions r self.entry.now →
-            result ≡ opened actions }
+        ensures { (kind : TextKind) (gone : List ℕ) (limits : Limits) (wire : Wire) (t : Terms) (actions : List Action) (r : Run) →
+            Follows kind gone limits wire t actions r self.entry.now → result ≡ opened actions }
     {
         self.lanes.len() as u64
     }
 
     /// If the two ends did what a script says, the text of their run is its report. It does nothing: its contract is the law.
     pub(crate) fn reports(&self)
-        ensures { (wire : Wire) (text : List ℕ) (p : Program) (r : Run) → IsHouseWire (limits_in p.settings).frame wire → Parses text p →
-            Follows (limits_in p.settings) wire (terms_in p.settings) p.actions r self.entry.now → IsReportOver wire p (report_text (terms_in p.settings) r) }
+        ensures { (kind : TextKind) (gone : List ℕ) (wire : Wire) (text : List ℕ) (p : Program) (r : Run) → IsHouseWire (limits_in p.settings).frame wire →
+            Parses text p → Follows kind gone (limits_in p.settings) wire (terms_in p.settings) p.actions r self.entry.now →
+            IsReportOver wire p (report_text (terms_in p.settings) r) }
     {
         ends_report(self.client.end(), self.server.end());
     }
 
-    /// The whole report: after what happened, how both ends stand.
+    /// The whole report, if that is what was told: after what happened, how both ends stand.
     pub(crate) fn finish(self, alloc: Global) -> Result<Vec<u8>, AllocError>
-        ensures { IfOk result (λ text. (limits : Limits) (wire : Wire) (t : Terms) (actions : List Action) (r : Run) → Follows limits wire t actions r self →
-            text.items ≡ report_text t r) }
+        ensures { IfOk result (λ text. (limits : Limits) (wire : Wire) (t : Terms) (actions : List Action) (r : Run) →
+            Follows kinds.Report [] limits wire t actions r self → text.items ≡ report_text t r) }
     {
         fed_is_unseen();
-        let mut report = self.report;
+        let mut report = self.told;
         stand(alloc, &self.client, Side::Client, &mut report)?;
         stand(alloc, &self.server, Side::Server, &mut report)?;
         Ok(report)
@@ -311,12 +382,12 @@ impl Pair {
         let link = self.lanes.len() as u64;
         let opened = attach(
             alloc,
+            self.kind,
             &mut self.client,
-            Side::Client,
             link,
             self.now,
             &mut self.client_place,
-            &mut self.report,
+            &mut self.told,
         )?;
         self.lanes.push(LinkBytes {
             to_server: Vec::new(alloc),
@@ -343,18 +414,18 @@ impl Pair {
         }
         attach(
             alloc,
+            self.kind,
             &mut self.server,
-            Side::Server,
             link,
             self.now,
             &mut self.server_place,
-            &mut self.report,
+            &mut self.told,
         )?;
         Ok(())
     }
 
     /// An end puts so many of its frames on its link.
-    fn write(&mut self, side: Side, count: Count) -> Result<(), AllocError>
+    fn write(&mut self, alloc: Global, side: Side, count: Count) -> Result<(), AllocError>
         ensures { OnOk result (GoesOn self.old (action.Write side count) self.new) }
     {
         runs_are_worlds();
@@ -371,7 +442,15 @@ impl Pair {
                 if at >= self.lanes.len() {
                     return Ok(());
                 }
-                write(&mut self.client, side, count, &mut self.lanes[at])
+                write(
+                    alloc,
+                    self.kind,
+                    &mut self.client,
+                    side,
+                    count,
+                    &mut self.lanes[at],
+                    &mut self.told,
+                )
             }
             Side::Server => {
                 let Some(link) = self.server.link() else {
@@ -381,7 +460,15 @@ impl Pair {
                 if at >= self.lanes.len() {
                     return Ok(());
                 }
-                write(&mut self.server, side, count, &mut self.lanes[at])
+                write(
+                    alloc,
+                    self.kind,
+                    &mut self.server,
+                    side,
+                    count,
+                    &mut self.lanes[at],
+                    &mut self.told,
+                )
             }
         }
     }
@@ -409,11 +496,12 @@ impl Pair {
                 }
                 read(
                     alloc,
+                    self.kind,
                     &mut self.client,
                     count,
                     &self.lanes[at].to_client,
                     &mut self.client_place,
-                    &mut self.report,
+                    &mut self.told,
                 )
             }
             Side::Server => {
@@ -426,35 +514,36 @@ impl Pair {
                 }
                 read(
                     alloc,
+                    self.kind,
                     &mut self.server,
                     count,
                     &self.lanes[at].to_server,
                     &mut self.server_place,
-                    &mut self.report,
+                    &mut self.told,
                 )
             }
         }
     }
 
     /// An end loses its link.
-    fn lose(&mut self, side: Side)
-        ensures { GoesOn self.old (action.Lose side) self.new }
+    fn lose(&mut self, alloc: Global, side: Side) -> Result<(), AllocError>
+        ensures { OnOk result (GoesOn self.old (action.Lose side) self.new) }
     {
         runs_are_worlds();
         wire_is_sound();
         match side {
-            Side::Client => self.client.lose(self.now),
-            Side::Server => self.server.lose(self.now),
+            Side::Client => lose(alloc, self.kind, &mut self.client, self.now, &mut self.told),
+            Side::Server => lose(alloc, self.kind, &mut self.server, self.now, &mut self.told),
         }
     }
 
     /// An end is closed.
-    fn close(&mut self, side: Side)
-        ensures { GoesOn self.old (action.Close side) self.new }
+    fn close(&mut self, alloc: Global, side: Side) -> Result<(), AllocError>
+        ensures { OnOk result (GoesOn self.old (action.Close side) self.new) }
     {
         match side {
-            Side::Client => self.client.close(),
-            Side::Server => self.server.close(),
+            Side::Client => close(alloc, self.kind, &mut self.client, &mut self.told),
+            Side::Server => close(alloc, self.kind, &mut self.server, &mut self.told),
         }
     }
 
@@ -465,19 +554,19 @@ impl Pair {
         ensures { OnOk result (GoesOn self.old (action.Send side message.now) self.new) }
     {
         match side {
-            Side::Client => send(alloc, &mut self.client, side, message, &mut self.report),
-            Side::Server => send(alloc, &mut self.server, side, message, &mut self.report),
+            Side::Client => send(alloc, self.kind, &mut self.client, message, &mut self.told),
+            Side::Server => send(alloc, self.kind, &mut self.server, message, &mut self.told),
         }
     }
 
     /// A moment comes at both ends.
-    fn tick(&mut self, now: u64) -> Result<(), AllocError>
+    fn tick(&mut self, alloc: Global, now: u64) -> Result<(), AllocError>
         ensures { OnOk result (GoesOn self.old (action.Tick now) self.new) }
     {
         runs_are_worlds();
         wire_is_sound();
-        tick(&mut self.client, Side::Client, now, &mut self.report)?;
-        tick(&mut self.server, Side::Server, now, &mut self.report)?;
+        tick(alloc, self.kind, &mut self.client, now, &mut self.told)?;
+        tick(alloc, self.kind, &mut self.server, now, &mut self.told)?;
         self.now = now;
         Ok(())
     }

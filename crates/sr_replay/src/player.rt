@@ -18,17 +18,18 @@ ghost use Rattle.sr_replay.specs.Runs.{Makes, Refuses, attaching, losing, closin
 ghost use Rattle.sr_lines.specs.Lines.{refusal_words};
 ghost use Rattle.hd_delivery.specs.Following.{FollowAll, FollowUpTo};
 ghost use Rattle.hd_delivery.specs.Alone.{writing, reading, taking};
-ghost use Rattle.sr_replay.specs.Plays.{Plays, OfEach, Feeds, Goes, limits_at, most_steps, steps_text};
+ghost use Rattle.sr_replay.specs.Told.{steps_text};
+ghost use Rattle.sr_replay.specs.Plays.{Plays, OfEach, Feeds, Goes, Says, limits_at, most_steps};
 ghost use Rattle.hd_delivery.specs.Alone.{lent_text};
 ghost use Rattle.sr_script.specs.Script.{most_of};
 
+use crate::text_kind::TextKind;
 use hd_delivery::{
     Reason, Side, State, facts_hold, fed_is_unseen, taken_has_room, takes_few, writes_few,
 };
 use he_end::{AttachError, Config, End, NextError, SendError};
 use he_wire::wire_is_sound;
 use hm_message::Message;
-use sr_lines::{push_fault, push_got};
 use sr_script::Count;
 use std::alloc::{AllocError, Global};
 
@@ -57,6 +58,13 @@ impl Player {
     }
 
     // ---- what it is
+
+    /// Which end it is.
+    pub(crate) fn side(&self) -> Side
+        ensures { OfEach self.now (λ wire c h. result ≡ c.side) }
+    {
+        self.side
+    }
 
     /// The link on which it stands.
     pub(crate) fn link(&self) -> Option<u64>
@@ -160,61 +168,80 @@ impl Player {
         self.end.send(alloc, message)
     }
 
-    /// Puts so many of the frames that are due on the link whose bytes these are.
-    pub(crate) fn write(&mut self, count: Count, lane: &mut Vec<u8>) -> Result<(), AllocError>
+    /// Puts so many of the frames that are due on the link whose bytes these are, and tells of each.
+    pub(crate) fn write(
+        &mut self,
+        alloc: Global,
+        kind: TextKind,
+        count: Count,
+        lane: &mut Vec<u8>,
+        told: &mut Vec<u8>,
+    ) -> Result<(), AllocError>
         ensures written { OnOk result (OfEach self.old (λ wire c h. (ss : List ByteStep) × (FollowUpTo (most_of count) (writing wire c) h ss × Plays wire c self.new (ss ++ h)
-            × (lane.new.items ≡ lane.old.items ++ lent_text wire c h ss)))) }
+            × (lane.new.items ≡ lane.old.items ++ lent_text wire c h ss) × (told.new.items ≡ told.old.items ++ steps_text kind wire c h ss)))) }
         ensures limits { OnOk result (limits_at self.new ≡ limits_at self.old) }
     {
         facts_hold();
         writes_few();
         for _written in 0..most(count) {
-            if !self.write_one(lane)? {
+            if !self.write_one(alloc, kind, lane, told)? {
                 return Ok(());
             }
         }
         Ok(())
     }
 
-    /// Reads these bytes of its link, which are all that are to be read of what comes next there, and reports what they give. All frames that came
+    /// Reads these bytes of its link, which are all that are to be read of what comes next there, and tells what they give. All frames that came
     /// before were taken.
     pub(crate) fn read(
         &mut self,
         alloc: Global,
+        kind: TextKind,
         bytes: &[u8],
-        report: &mut Vec<u8>,
+        told: &mut Vec<u8>,
     ) -> Result<(), AllocError>
         ensures read { OnOk result (OfEach self.old (λ wire c h. (l : ℕ) (all : List ℕ) → present_link (in_frames wire c h) ≡ Some l →
             bytes.now ≡ drop (length (bytes_on l h)) all → processes c (in_frames wire c h) ≡ None →
             (ss : List ByteStep) × (FollowAll (reading (limits_at self.old) wire c all) h ss × Plays wire c self.new (ss ++ h)
-            × (report.new.items ≡ report.old.items ++ steps_text c.side h ss)))) }
+            × (told.new.items ≡ told.old.items ++ steps_text kind wire c h ss)))) }
         ensures limits { OnOk result (limits_at self.new ≡ limits_at self.old) }
     {
         fed_is_unseen();
+        let side = self.side;
         let mut at = 0;
         while at < bytes.len() {
-            let taken = self.feed(&bytes[at..]);
+            let rest = &bytes[at..];
+            let taken = self.feed(rest);
             if taken == 0 {
                 return Ok(());
             }
+            kind.push_fed(alloc, told, side, &rest[..taken])?;
             at += taken;
-            self.take_all(alloc, report)?;
+            self.take_all(alloc, kind, told)?;
         }
         Ok(())
     }
 
     // ---- inside
 
-    /// Puts the next frame that is due on the link, if one is. True exactly if one was.
-    fn write_one(&mut self, lane: &mut Vec<u8>) -> Result<bool, AllocError>
+    /// Puts the next frame that is due on the link, if one is, and tells of it. True exactly if one was.
+    fn write_one(
+        &mut self,
+        alloc: Global,
+        kind: TextKind,
+        lane: &mut Vec<u8>,
+        told: &mut Vec<u8>,
+    ) -> Result<bool, AllocError>
         ensures wrote { IfOk result (λ more. OfEach self.old (λ wire c h.
-            Goes (writing wire c) (lent_text wire c) wire c h self.new lane.old.items lane.new.items more)) }
+            Says kind wire c h self.new lane.old.items lane.new.items told.old.items told.new.items more)) }
         ensures limits { OnOk result (limits_at self.new ≡ limits_at self.old) }
     {
+        let side = self.side;
         let Some(bytes) = self.end.next_out() else {
             return Ok(false);
         };
         lane.extend_from_slice(bytes)?;
+        kind.push_lent(alloc, told, side, bytes)?;
         Ok(true)
     }
 
@@ -234,10 +261,15 @@ impl Player {
         self.end.feed(piece)
     }
 
-    /// Takes every whole frame that was fed, and reports what it gives.
-    fn take_all(&mut self, alloc: Global, report: &mut Vec<u8>) -> Result<(), AllocError>
+    /// Takes every whole frame that was fed, and tells what it gives.
+    fn take_all(
+        &mut self,
+        alloc: Global,
+        kind: TextKind,
+        told: &mut Vec<u8>,
+    ) -> Result<(), AllocError>
         ensures taken { OnOk result (OfEach self.old (λ wire c h. (ss : List ByteStep) × (FollowAll (taking wire c) h ss × Plays wire c self.new (ss ++ h)
-            × (report.new.items ≡ report.old.items ++ steps_text c.side h ss)))) }
+            × (told.new.items ≡ told.old.items ++ steps_text kind wire c h ss)))) }
         ensures limits { OnOk result (limits_at self.new ≡ limits_at self.old) }
         ensures link { OnOk result (self.new.link ≡ self.old.link) }
     {
@@ -246,17 +278,22 @@ impl Player {
         // Limits are in range, so an end has fewer frames to take than 64 bits count.
         let _ = self.end.limits().frame();
         for _taken in 0..u64::MAX {
-            if !self.take_one(alloc, report)? {
+            if !self.take_one(alloc, kind, told)? {
                 return Ok(());
             }
         }
         Ok(())
     }
 
-    /// Takes the next whole frame, if there is one, and reports what it gives. True exactly if there was one.
-    fn take_one(&mut self, alloc: Global, report: &mut Vec<u8>) -> Result<bool, AllocError>
+    /// Takes the next whole frame, if there is one, and tells what it gives. True exactly if there was one.
+    fn take_one(
+        &mut self,
+        alloc: Global,
+        kind: TextKind,
+        told: &mut Vec<u8>,
+    ) -> Result<bool, AllocError>
         ensures took { IfOk result (λ more. OfEach self.old (λ wire c h.
-            Goes (taking wire c) (steps_text c.side) wire c h self.new report.old.items report.new.items more)) }
+            Goes (taking wire c) (steps_text kind wire c) wire c h self.new told.old.items told.new.items more)) }
         ensures limits { OnOk result (limits_at self.new ≡ limits_at self.old) }
         ensures link { OnOk result (self.new.link ≡ self.old.link) }
     {
@@ -265,13 +302,13 @@ impl Player {
             Ok(None) => Ok(false),
             Ok(Some(got)) => {
                 let number = self.end.processed_count();
-                push_got(alloc, report, self.side, number, &got)?;
+                kind.push_took(alloc, told, self.side, number, &got)?;
                 Ok(true)
             }
             Err(fault) => match fault {
                 NextError::NoMemory => Err(AllocError),
                 fault => {
-                    push_fault(alloc, report, self.side, &fault)?;
+                    kind.push_failed(alloc, told, self.side, &fault)?;
                     Ok(true)
                 }
             },

@@ -8,13 +8,15 @@ ghost use Rattle.sr_notation.specs.declared.setting.Setting.{Setting};
 ghost use Rattle.sr_notation.specs.Settings.{IsSetting};
 ghost use Rattle.sr_script.specs.Script.{Program, Parses, opened};
 ghost use Rattle.sr_notation.specs.Terms.{peers_in};
+ghost use Rattle.sr_replay.specs.declared.text_kind.TextKind.TheVariants as kinds;
 ghost use Rattle.sr_replay.specs.Report.{IsReport, IsReportOf};
-ghost use Rattle.sr_replay.specs.Replays.{Begins, IsWithoutPeers, IsForEnds, Obeys, ActsAll, Reaches};
+ghost use Rattle.sr_replay.specs.Replays.{Begins, IsBegun, IsWithoutPeers, IsForEnds, Obeys, ActsAll, Reaches};
 ghost use Rattle.hs_shake.specs.Requests.{IsVersion};
 
 use crate::laws::reports_once;
 use crate::pair::Pair;
 use crate::peering;
+use crate::text_kind::TextKind;
 use crate::told::Told;
 use he_end::Config;
 use he_wire::has_wire;
@@ -110,7 +112,7 @@ fn set(config: &mut Config, setting: Setting)
 }
 
 /// How both ends of a script are begun. Its options come before its first action.
-fn options(alloc: Global, script: &Script) -> Result<Config, AllocError>
+pub(crate) fn options(alloc: Global, script: &Script) -> Result<Config, AllocError>
     ensures spoken { IfOk result (λ config. IsVersion config.version) }
     ensures begins { IfOk result (λ config. (p : Program) → Parses script.now p → Begins p.settings config) }
 {
@@ -130,7 +132,7 @@ fn options(alloc: Global, script: &Script) -> Result<Config, AllocError>
 }
 
 /// Does what a line asks for, once the options are known.
-fn obey(alloc: Global, asked: Asked, pair: &mut Pair) -> Result<(), AllocError>
+pub(crate) fn obey(alloc: Global, asked: Asked, pair: &mut Pair) -> Result<(), AllocError>
     requires { IsForEnds asked }
     ensures { OnOk result (Obeys pair.old asked pair.new) }
 {
@@ -143,7 +145,7 @@ fn obey(alloc: Global, asked: Asked, pair: &mut Pair) -> Result<(), AllocError>
 /// Does the actions of a script without peers, with two ends that did nothing yet.
 fn act_all(alloc: Global, script: &Script, pair: &mut Pair) -> Result<(), AllocError>
     requires { IsWithoutPeers script.now }
-    ensures { OnOk result ((p : Program) → Parses script.now p → ActsAll pair.old p.actions pair.new) }
+    ensures { OnOk result ((p : Program) → Parses script.now p → ActsAll pair.old p.actions [] pair.new) }
 {
     settings_come_first();
     // The text of a script is one.
@@ -157,13 +159,21 @@ fn act_all(alloc: Global, script: &Script, pair: &mut Pair) -> Result<(), AllocE
     }
 }
 
-/// The two ends after all actions of a script without peers.
-fn run(alloc: Global, script: &Script) -> Result<Pair, AllocError>
-    requires { IsWithoutPeers script.now }
-    ensures { IfOk result (λ pair. (p : Program) → Parses script.now p → Reaches p pair) }
+/// The two ends of a script, which did nothing yet.
+pub(crate) fn begin(alloc: Global, kind: TextKind, script: &Script) -> Result<Pair, AllocError>
+    ensures { IfOk result (λ pair. (p : Program) → Parses script.now p → IsBegun kind p pair) }
 {
     let config = options(alloc, script)?;
-    let mut pair = Pair::start(alloc, config)?;
+    let pair = Pair::start(alloc, kind, config)?;
+    Ok(pair)
+}
+
+/// The two ends after all actions of a script without peers, of which they told as a report.
+fn run(alloc: Global, script: &Script) -> Result<Pair, AllocError>
+    requires { IsWithoutPeers script.now }
+    ensures { IfOk result (λ pair. (p : Program) → Parses script.now p → Reaches kinds.Report p pair) }
+{
+    let mut pair = begin(alloc, TextKind::Report, script)?;
     act_all(alloc, script, &mut pair)?;
     Ok(pair)
 }
@@ -196,7 +206,7 @@ fn has_peers_with(has: bool, setting: Setting) -> bool
 }
 
 /// Whether a script has peers. Its options come before its first action.
-fn has_peers(alloc: Global, script: &Script) -> Result<bool, AllocError>
+pub(crate) fn has_peers(alloc: Global, script: &Script) -> Result<bool, AllocError>
     ensures { IfOk result (λ has. (p : Program) → Parses script.now p → has ≡ peers_in p.settings) }
 {
     settings_come_first();

@@ -16,10 +16,10 @@ returns-then-at-len c = client_never_past c.facts_hold.ensures c.runs_are_worlds
 pub returns-else-at-len : goal.returns-else-at-len
 returns-else-at-len c = on_ok c.read.result
     (client_reads c.frames_are_taken.ensures c.runs_are_worlds.ensures c.wire_is_sound.ensures c.fed_is_lent.ensures c.lent_stays.ensures c.fed_is_unseen.ensures c.taken_has_room.ensures
-    c.args.self.now c.read.new.player c.in-Some.link c.read.new.place c.read.new.report c.index.result.now c.args.count c.args.side c.in-Client.is
+    c.args.self.now c.read.new.player c.in-Some.link c.read.new.place c.read.new.told c.index.result.now c.args.count c.args.side c.in-Client.is
     (λ wire config h plays. sym c.in-Some.is ∙ c.link.ensures wire config h plays)
     (there c.args.self.now.lanes.items c.in-Some.link c.index.result.now (omega (arith, c.if-at-len.false, c.len.ensures, c.args.self.now.lanes.ok.0)) c.index.ensures))
-    (subst (λ said. OnOk c.read.result (ReadsFrom c.args.count c.args.self.now.client c.read.new.player said c.args.self.now.client_place c.read.new.place c.args.self.now.report.items c.read.new.report.items))
+    (subst (λ said. OnOk c.read.result (ReadsFrom c.args.self.now.kind c.args.count c.args.self.now.client c.read.new.player said c.args.self.now.client_place c.read.new.place c.args.self.now.told.items c.read.new.told.items))
     c.deref.ensures.value c.read.ensures.reads)
     c.read.ensures.limits
 
@@ -33,9 +33,9 @@ returns-then-at-len-2 c = server_never_past c.facts_hold.ensures c.runs_are_worl
 pub returns-else-at-len-2 : goal.returns-else-at-len-2
 returns-else-at-len-2 c = on_ok c.read-in-Server.result
     (server_reads c.frames_are_taken.ensures c.runs_are_worlds.ensures c.wire_is_sound.ensures c.fed_is_lent.ensures c.lent_stays.ensures c.fed_is_unseen.ensures c.taken_has_room.ensures
-    c.args.self.now c.read-in-Server.new.player c.in-Some-link.link c.read-in-Server.new.place c.read-in-Server.new.report c.index-in-Server.result.now c.args.count c.args.side c.in-Server.is
+    c.args.self.now c.read-in-Server.new.player c.in-Some-link.link c.read-in-Server.new.place c.read-in-Server.new.told c.index-in-Server.result.now c.args.count c.args.side c.in-Server.is
     (λ wire config h plays. sym c.in-Some-link.is ∙ c.link-in-Server.ensures wire config h plays)
     (there c.args.self.now.lanes.items c.in-Some-link.link c.index-in-Server.result.now (omega (arith, c.if-at-len-2.false, c.len-in-Server.ensures, c.args.self.now.lanes.ok.0)) c.index-in-Server.ensures))
-    (subst (λ said. OnOk c.read-in-Server.result (ReadsFrom c.args.count c.args.self.now.server c.read-in-Server.new.player said c.args.self.now.server_place c.read-in-Server.new.place c.args.self.now.report.items c.read-in-Server.new.report.items))
+    (subst (λ said. OnOk c.read-in-Server.result (ReadsFrom c.args.self.now.kind c.args.count c.args.self.now.server c.read-in-Server.new.player said c.args.self.now.server_place c.read-in-Server.new.place c.args.self.now.told.items c.read-in-Server.new.told.items))
     c.deref-in-Server.ensures.value c.read-in-Server.ensures.reads)
     c.read-in-Server.ensures.limits

@@ -16,7 +16,7 @@ returns-then-at-len c = client_never_past c.facts_hold.ensures c.runs_are_worlds
 pub returns-else-at-len : goal.returns-else-at-len
 returns-else-at-len c = on_ok c.write.result
     (client_writes c.lent_comes_last.ensures c.lent_stays.ensures c.args.self.now c.write.new.player c.in-Some.link c.index_mut.result.now c.write.new.lane
-    (with_item c.args.self.now.lanes c.in-Some.link c.write.new.lane) c.args.count c.args.side c.in-Client.is
+    (with_item c.args.self.now.lanes c.in-Some.link c.write.new.lane) c.write.new.told c.args.count c.args.side c.in-Client.is
     (λ wire config h plays. sym c.in-Some.is ∙ c.link.ensures wire config h plays)
     (there c.args.self.now.lanes.items c.in-Some.link c.index_mut.result.now (omega (arith, c.if-at-len.false, c.len.ensures, c.args.self.now.lanes.ok.0)) c.index_mut.ensures.value)
     refl c.write.ensures.other c.write.ensures.opened)
@@ -32,7 +32,7 @@ returns-then-at-len-2 c = server_never_past c.facts_hold.ensures c.runs_are_worl
 pub returns-else-at-len-2 : goal.returns-else-at-len-2
 returns-else-at-len-2 c = on_ok c.write-in-Server.result
     (server_writes c.lent_comes_last.ensures c.lent_stays.ensures c.args.self.now c.write-in-Server.new.player c.in-Some-link.link c.index_mut-in-Server.result.now c.write-in-Server.new.lane
-    (with_item c.args.self.now.lanes c.in-Some-link.link c.write-in-Server.new.lane) c.args.count c.args.side c.in-Server.is
+    (with_item c.args.self.now.lanes c.in-Some-link.link c.write-in-Server.new.lane) c.write-in-Server.new.told c.args.count c.args.side c.in-Server.is
     (λ wire config h plays. sym c.in-Some-link.is ∙ c.link-in-Server.ensures wire config h plays)
     (there c.args.self.now.lanes.items c.in-Some-link.link c.index_mut-in-Server.result.now (omega (arith, c.if-at-len-2.false, c.len-in-Server.ensures, c.args.self.now.lanes.ok.0)) c.index_mut-in-Server.ensures.value)
     refl c.write-in-Server.ensures.other c.write-in-Server.ensures.opened)

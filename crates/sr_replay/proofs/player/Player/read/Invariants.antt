@@ -13,7 +13,7 @@ invariant-loop-at l = record {
   within : l.at ≤ length l.bytes;
   read : (wire : Wire) (c : of.Config) (h : List ByteStep) → Plays wire c l.fn.self h → (link : ℕ) (all : List ℕ) → present_link (in_frames wire c h) ≡ Some link
       → l.bytes ≡ drop (length (bytes_on link h)) all → processes c (in_frames wire c h) ≡ None
-      → HasRead (limits_at l.fn.self) wire c h l.self link all l.fn.report.items l.report.items l.at;
+      → HasRead l.fn.kind (limits_at l.fn.self) wire c h l.self link all l.fn.told.items l.told.items l.at;
 }
 
 abbrev pub decreases-loop-at : goal.decreases-loop-at

@@ -1,7 +1,8 @@
 use Rattle.std.proofs.Common.{◌<◌, ◌++◌, length, refl, ◌∙◌, subst, arith}
 use Rattle.hd_delivery.specs.Bounds.{AreLimits}
 use Rattle.sr_script.specs.declared.action.Count.TheVariants.{Everything}
-use Rattle.sr_replay.specs.Plays.{Goes, steps_text, limits_at, most_steps}
+use Rattle.sr_replay.specs.Told.{steps_text}
+use Rattle.sr_replay.specs.Plays.{Goes, limits_at, most_steps}
 use Rattle.hd_delivery.specs.Alone.{taking}
 use Rattle.sr_replay.proofs.Going.{steps_add, gone_none, gone_on, all_done, taken_few}
 use Rattle.sr_replay.proofs.player.Player.take_all.Goals as goal
@@ -10,7 +11,7 @@ pub loop-taken-init : goal.loop-taken-init
 loop-taken-init c = record {
   limits = refl;
   link = refl;
-  gone = λ wire config h plays. gone_none (taking wire config) (steps_text config.side) (steps_add config.side) wire config h c.args.self.now c.args.report.now.items plays;
+  gone = λ wire config h plays. gone_none (taking wire config) (steps_text c.args.kind wire config) (steps_add c.args.kind wire config) wire config h c.args.self.now c.args.told.now.items plays;
 }
 
 pub loop-taken-preserved : goal.loop-taken-preserved
@@ -19,9 +20,9 @@ loop-taken-preserved c = record {
   link = c.in_ok-take_one.ensures.link ∙ c.loop-taken.invariant.link;
   gone = λ wire config h plays.
       let has = c.loop-taken.invariant.gone wire config h plays in
-      gone_on (taking wire config) (steps_text config.side) (steps_add config.side) wire config h c.loop-taken.self c.take_one.new.self
-      c.args.report.now.items c.loop-taken.report.items c.take_one.new.report.items c.loop-taken._taken has
-      (subst (Goes (taking wire config) (steps_text config.side) wire config (has.steps ++ h) c.take_one.new.self c.loop-taken.report.items c.take_one.new.report.items)
+      gone_on (taking wire config) (steps_text c.args.kind wire config) (steps_add c.args.kind wire config) wire config h c.loop-taken.self c.take_one.new.self
+      c.args.told.now.items c.loop-taken.told.items c.take_one.new.told.items c.loop-taken._taken has
+      (subst (Goes (taking wire config) (steps_text c.args.kind wire config) wire config (has.steps ++ h) c.take_one.new.self c.loop-taken.told.items c.take_one.new.told.items)
       c.if-not-branch.false (c.in_ok-take_one.ensures.took wire config (has.steps ++ h) has.plays));
 }
 
@@ -31,9 +32,9 @@ returns-then-not-branch c = record {
   link = c.in_ok-take_one.ensures.link ∙ c.loop-taken.invariant.link;
   taken = λ wire config h plays.
       let has = c.loop-taken.invariant.gone wire config h plays in
-      all_done (taking wire config) (steps_text config.side) (steps_add config.side) wire config h c.loop-taken.self c.take_one.new.self
-      c.args.report.now.items c.loop-taken.report.items c.take_one.new.report.items c.loop-taken._taken has
-      (subst (Goes (taking wire config) (steps_text config.side) wire config (has.steps ++ h) c.take_one.new.self c.loop-taken.report.items c.take_one.new.report.items)
+      all_done (taking wire config) (steps_text c.args.kind wire config) (steps_add c.args.kind wire config) wire config h c.loop-taken.self c.take_one.new.self
+      c.args.told.now.items c.loop-taken.told.items c.take_one.new.told.items c.loop-taken._taken has
+      (subst (Goes (taking wire config) (steps_text c.args.kind wire config) wire config (has.steps ++ h) c.take_one.new.self c.loop-taken.told.items c.take_one.new.told.items)
       c.if-not-branch.true (c.in_ok-take_one.ensures.took wire config (has.steps ++ h) has.plays));
 }
 
