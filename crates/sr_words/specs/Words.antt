@@ -10,7 +10,7 @@ use Rattle.hn_dialing.specs.Addresses.{IsAddress}
 use Rattle.hw_door.specs.declared.heard.Address.{Address}
 use Rattle.sr_words.specs.declared.adding.Adding.{Adding}
 use Rattle.sr_words.specs.declared.commands.Command.{Command}
-use Rattle.sr_words.specs.declared.commands.Command.TheVariants.{Replay, Soak, Check, Convert, Serve, Client, User}
+use Rattle.sr_words.specs.declared.commands.Command.TheVariants.{Replay, Record, Soak, Check, Convert, Serve, Client, User}
 use Rattle.sr_words.specs.declared.dialing.Dialing.{Dialing}
 use Rattle.sr_words.specs.declared.serving.Serving.{Serving}
 use Rattle.sr_words.specs.declared.serving.Settings.{Settings}
@@ -61,6 +61,9 @@ client_options =
 abbrev pub replay_app : App
 replay_app = bare_app (codes "replay")
 
+abbrev pub record_app : App
+record_app = bare_app (codes "record")
+
 abbrev pub soak_app : App
 soak_app = with_rule (with_rule (bare_app (codes "soak")) (required (codes "seed"))) (required (codes "steps"))
 
@@ -101,6 +104,7 @@ SaysAdding rows adding =
 -- the command of this name, with these words after it, asks for this
 abbrev pub AsksAfter : Text → List Text → Command → Type 0
 AsksAfter name rest Replay = (name ≡ codes "replay") × Takes replay_app rest
+AsksAfter name rest Record = (name ≡ codes "record") × Takes record_app rest
 AsksAfter name rest (Soak seed steps) =
     (name ≡ codes "soak") × Takes soak_app rest × SaysNumber (codes "seed") seed (matches_of soak_app rest)
     × SaysNumber (codes "steps") steps (matches_of soak_app rest) × (steps ≤ most_steps)

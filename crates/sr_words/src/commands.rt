@@ -10,6 +10,8 @@ use hm_message::Codec;
 pub enum Command {
     /// To replay a script.
     Replay,
+    /// To write down the session of a script, as a trace.
+    Record,
     /// To let two peers do what numbers say that are drawn from this seed, in so many steps: at most [`MOST_STEPS`](crate::MOST_STEPS).
     Soak { seed: u64, steps: u32 },
     /// To tell of each frame what it says.

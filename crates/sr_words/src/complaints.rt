@@ -11,7 +11,7 @@ use clap::ArgMatches;
 use std::alloc::{AllocError, Global};
 
 /// The commands that there are.
-const COMMANDS: &str = "the commands are replay, soak, serve, client, check, convert and user";
+const COMMANDS: &str = "the commands are replay, record, soak, serve, client, check, convert and user";
 
 /// What is wrong with words that are no command, and what the command that they name takes, in one line without its end.
 pub fn complaint(alloc: Global, words: &[String]) -> Result<String, AllocError> {
@@ -36,7 +36,7 @@ pub fn complaint(alloc: Global, words: &[String]) -> Result<String, AllocError> 
 /// What may come after a command's name.
 fn form_of(name: &str) -> Option<&'static str> {
     match name {
-        "replay" => Some("no words: its script comes by standard input"),
+        "replay" | "record" => Some("no words: its script comes by standard input"),
         "soak" => Some("SEED STEPS, a number of 64 bits and one up to 100000"),
         "check" => Some("CODEC, which is json or pack"),
         "convert" => Some("FROM TO, which are json and pack, or pack and json"),

@@ -5,7 +5,7 @@ ghost use Rattle.clap.specs.Words.{app_of, rule_of, first_of, found_of, is_simpl
 ghost use Rattle.hd_facts.specs.Unique.{IsTheOne};
 ghost use Rattle.sr_words.specs.Clap.{SaysNumber, Takes, bare_app, optional, required, required_option};
 ghost use Rattle.sr_words.specs.Options.{text_of, texts_of, with_options};
-ghost use Rattle.sr_words.specs.Words.{AreSettings, Asks, AsksAfter, AsksNothingAfter, IsNoCommand, SaysAdding, SaysAddress, SaysDialing, SaysServing, check_app, client_app, codec_name, convert_app, no_settings, replay_app, serve_app, settings_of, soak_app, texts, user_app};
+ghost use Rattle.sr_words.specs.Words.{AreSettings, Asks, AsksAfter, AsksNothingAfter, IsNoCommand, SaysAdding, SaysAddress, SaysDialing, SaysServing, check_app, client_app, codec_name, convert_app, no_settings, record_app, replay_app, serve_app, settings_of, soak_app, texts, user_app};
 ghost use Rattle.hm_message.specs.declared.message.Codec.{Codec};
 ghost use Rattle.hw_door.specs.declared.heard.Address.{Address};
 ghost use Rattle.sr_words.specs.declared.adding.Adding.{Adding};
@@ -117,6 +117,22 @@ fn replay_words(alloc: Global, words: &[String]) -> Result<Command, WordsError>
 {
     matches_in(replay_command(alloc), words)?;
     Ok(Command::Replay)
+}
+
+/// The command `record`, which has no arguments.
+fn record_command<'a>(alloc: Global) -> clap::Command<'a>
+    ensures { app_of result ≡ record_app }
+{
+    bare(alloc, "record")
+}
+
+/// What `record` asks for with these words after it.
+fn record_words(alloc: Global, words: &[String]) -> Result<Command, WordsError>
+    ensures ok { IfOk result (IsTheOne (AsksAfter (codes "record") (texts words.now))) }
+    ensures no_command { result ≡ Err WordsError.NoCommand → AsksNothingAfter (codes "record") (texts words.now) }
+{
+    matches_in(record_command(alloc), words)?;
+    Ok(Command::Record)
 }
 
 /// The command `check CODEC`.
@@ -385,6 +401,7 @@ pub fn parse(alloc: Global, words: &[String]) -> Result<Command, WordsError>
     };
     match name.as_str() {
         "replay" => replay_words(alloc, rest),
+        "record" => record_words(alloc, rest),
         "soak" => soak_words(alloc, rest),
         "check" => check_words(alloc, rest),
         "convert" => convert_words(alloc, rest),
