@@ -13,7 +13,7 @@ use Rattle.sr_check.specs.declared.task.Task.{Task}
 use Rattle.sr_check.specs.declared.task.Task.TheVariants as task
 use Rattle.sr_check.specs.Stream.{ReadsNoFurther}
 use Rattle.sr_words.specs.declared.commands.Command.{Command}
-use Rattle.sr_words.specs.declared.commands.Command.TheVariants.{Replay, Soak, Check, Convert, Serve, Client, User}
+use Rattle.sr_words.specs.declared.commands.Command.TheVariants.{Replay, Record, Soak, Check, Convert, Serve, Client, User}
 use Rattle.sr_app.specs.declared.run.Status.{Status}
 use Rattle.sr_app.specs.declared.run.Status.TheVariants.{Done, Usage, Refused, ReadFault, WriteFault, DoorFault, KeeperFault, NoMemory, ConnectionRefused, LotsFault, TurnsDone}
 use Rattle.sr_script.specs.Script.{IsRefusedAt}
@@ -296,6 +296,7 @@ task_reads_nothing waits t input = record {
 -- no command reads too far that reads nothing
 pub reads_nothing : EmptyWaits → (command : Command) (input : Option (List ℕ)) → (meaning_of command).reads input input
 reads_nothing waits Replay input = ([], consumed_nothing input, omega arith)
+reads_nothing waits Record input = ([], consumed_nothing input, omega arith)
 reads_nothing waits (Soak seed steps) input = refl
 reads_nothing waits (Check codec) input = task_reads_nothing waits (task.Check codec) input
 reads_nothing waits (Convert from to) input = task_reads_nothing waits (task.Convert from to) input

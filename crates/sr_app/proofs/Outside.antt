@@ -2,7 +2,7 @@
 use Rattle.std.proofs.Common.{◌≡◌, ◌∙◌, ◌⊎◌, ℕ, inl, inr, List, Option, refl, sym, subst}
 use Rattle.hd_facts.specs.Writes.{Writes}
 use Rattle.sr_words.specs.declared.commands.Command.{Command}
-use Rattle.sr_words.specs.declared.commands.Command.TheVariants.{Replay, Soak, Check, Convert, Serve, Client, User}
+use Rattle.sr_words.specs.declared.commands.Command.TheVariants.{Replay, Record, Soak, Check, Convert, Serve, Client, User}
 use Rattle.sr_words.specs.declared.adding.Adding.{Adding}
 use Rattle.sr_words.specs.declared.dialing.Dialing.{Dialing}
 use Rattle.sr_words.specs.declared.serving.Serving.{Serving}
@@ -29,6 +29,7 @@ not_in_memory status outside same = subst IsEndedOutside (sym (same_status NoMem
 pub server_or_user_of : (command : Command) (input before now : Option (List ℕ)) → Writes ((meaning_of command).ended KeeperFault) input before now
     → ((asked : Serving) × (command ≡ Serve asked)) ⊎ ((asked : Adding) × (command ≡ User asked))
 server_or_user_of Replay input before now w = absurd w.3
+server_or_user_of Record input before now w = absurd w.3
 server_or_user_of (Soak seed steps) input before now w = absurd w.3
 server_or_user_of (Check codec) input before now w = absurd w.3
 server_or_user_of (Convert from to) input before now w = absurd w.3
@@ -39,6 +40,7 @@ server_or_user_of (User asked) input before now w = inr (asked, refl)
 pub door_or_dialer_of : (command : Command) (input before now : Option (List ℕ)) → Writes ((meaning_of command).ended DoorFault) input before now
     → ((asked : Serving) × (command ≡ Serve asked)) ⊎ ((asked : Dialing) × (command ≡ Client asked))
 door_or_dialer_of Replay input before now w = absurd w.3
+door_or_dialer_of Record input before now w = absurd w.3
 door_or_dialer_of (Soak seed steps) input before now w = absurd w.3
 door_or_dialer_of (Check codec) input before now w = absurd w.3
 door_or_dialer_of (Convert from to) input before now w = absurd w.3
@@ -72,6 +74,7 @@ not_without_dialing NoMemory is text line either = is
 dialer_of : (status : Status) → IsOfDialing status → (command : Command) (input before now : Option (List ℕ)) → Writes ((meaning_of command).ended status) input before now
     → (asked : Dialing) × (command ≡ Client asked)
 dialer_of status is Replay input before now w = absurd w.3
+dialer_of status is Record input before now w = absurd w.3
 dialer_of status is (Soak seed steps) input before now w = absurd w.3
 dialer_of status is (Check codec) input before now w = absurd w.3
 dialer_of status is (Convert from to) input before now w = absurd w.3

@@ -17,8 +17,10 @@ use Rattle.hk_keeper.specs.declared.keeper.KeepError.{KeepError}
 use Rattle.hk_keeper.specs.declared.keeper.KeepError.TheVariants as keep
 use Rattle.hw_door.specs.DoorCalls.{DoorCall, flushed}
 use Rattle.hub_server.specs.Resend.{limits_with}
-use Rattle.sr_script.specs.Script.{Program, Parses, IsRefusedAt, refusal_line, most_script}
+use Rattle.sr_script.specs.Script.{Program, Parses, IsRefusedAt, IsRefusedWithoutPeers, refusal_line, most_script}
+use Rattle.sr_script.specs.Reading.{ParsesWithoutPeers}
 use Rattle.sr_replay.specs.Report.{IsReportOf}
+use Rattle.sr_replay.specs.Trace.{IsPart, IsTrace}
 use Rattle.sr_soak.specs.declared.totals.Totals.{Totals}
 use Rattle.sr_soak.specs.Soaks.{IsSoak, soak_line}
 use Rattle.sr_check.specs.declared.task.Task.{Task}
@@ -27,7 +29,7 @@ use Rattle.sr_check.specs.declared.task.Stop.{Stop}
 use Rattle.sr_check.specs.declared.task.Stop.TheVariants as stop
 use Rattle.sr_check.specs.Stream.{IsDone, IsStopped, IsBegun, IsAllSoFar, IsPart, ReadsNoFurther, most_piece}
 use Rattle.sr_words.specs.declared.commands.Command.{Command}
-use Rattle.sr_words.specs.declared.commands.Command.TheVariants.{Replay, Soak, Check, Convert, Serve, Client, User}
+use Rattle.sr_words.specs.declared.commands.Command.TheVariants.{Replay, Record, Soak, Check, Convert, Serve, Client, User}
 use Rattle.sr_words.specs.declared.adding.Adding.{Adding}
 use Rattle.sr_words.specs.declared.serving.Serving.{Serving}
 use Rattle.sr_words.specs.declared.dialing.Dialing.{Dialing}
@@ -44,7 +46,7 @@ use Rattle.sr_client.specs.Running.{Faults, HasRun, IsCausedBy, IsSetup, WentSo,
 use Rattle.sr_script.specs.declared.script.ScriptError.TheVariants.{Line}
 
 abbrev pub usage_line : List ℕ
-usage_line = codes "usage: sr replay, soak, serve, client, check, convert or user\n"
+usage_line = codes "usage: sr replay, record, soak, serve, client, check, convert or user\n"
 
 -- the exit status, as the shell has it
 abbrev pub code_of : Status → ℕ
@@ -140,6 +142,44 @@ replaying = record {
   leaves = IsAtEnd;
   ended = λ status. Never;
 }
+
+-- ---- texts that are read whole
+
+-- A command that reads a text of at most so many bytes whole before it writes: what it answers, what refuses the text, and what of an answer is
+-- written before it is whole.
+abbrev pub of_text : ℕ → Answers → Answers → Answers → Meaning
+of_text most Answer Refusal Front = record {
+  done = Answer;
+  refused = Refusal;
+  part = λ text answer. Front text answer ⊎ Refusal text answer;
+  begun = λ text answer. IsNothing text answer ⊎ Front text answer;
+  read = IsNothing;
+  reads = ReadsBounded most;
+  leaves = IsAtEnd;
+  ended = λ status. Never;
+}
+
+-- the text is a script of two ends alone, and this is its trace
+pub record IsRecorded (text trace : List ℕ) : Type 0 where
+  pub asks : Program
+  pub script : ParsesWithoutPeers text asks
+  pub trace_is : IsTheOne (IsTrace asks) trace
+
+-- this is a first part of that
+pub record IsRecordedFront (text front : List ℕ) : Type 0 where
+  pub asks : Program
+  pub script : ParsesWithoutPeers text asks
+  pub front_is : IsPart asks front
+
+-- the text is no such script, and this is its refusal
+pub record IsRefusedToRecord (text answer : List ℕ) : Type 0 where
+  pub number : ℕ
+  pub first : IsTheOne (IsRefusedWithoutPeers text) number
+  pub line : answer ≡ refusal_line number
+
+-- A recording writes of each action once it is done.
+abbrev pub recording : Meaning
+recording = of_text most_script IsRecorded IsRefusedToRecord IsRecordedFront
 
 -- A task over frames writes of each frame before it has read the next piece.
 abbrev pub doing : Task → Meaning
@@ -272,6 +312,7 @@ adding = record {
 -- what each command means
 abbrev pub meaning_of : Command → Meaning
 meaning_of Replay = replaying
+meaning_of Record = recording
 meaning_of (Soak seed steps) = soaking seed steps
 meaning_of (Check codec) = doing (task.Check codec)
 meaning_of (Convert from to) = doing (task.Convert from to)
@@ -325,6 +366,17 @@ pub record Answered (text : List ℕ) (result : Status) (before now : Option (Li
   pub whole : result ≡ status → Appends before now answer
   pub part : result ≡ WriteFault → (faults' ≡ one_more faults) × ((n : ℕ) × Appends before now (take n answer))
   pub either : (result ≡ status) ⊎ (result ≡ WriteFault)
+
+-- What a command did that read this text, by the status with which it ended.
+pub record HasAnswered (m : Meaning) (text : List ℕ) (result : Status) (before now : Option (List ℕ)) (faults faults' : ℕ) : Type 0 where
+  pub done : result ≡ Done → (answer : List ℕ) × m.done text answer × Appends before now answer
+  pub usage : result ≢ Usage
+  pub refused : result ≡ Refused → (answer : List ℕ) × m.refused text answer × Appends before now answer
+  pub read_fault : result ≢ ReadFault
+  pub write_fault : result ≡ WriteFault → (faults' ≡ one_more faults)
+      × ((answer : List ℕ) × m.part text answer × ((n : ℕ) × Appends before now (take n answer)))
+  pub no_memory : result ≡ NoMemory → (answer : List ℕ) × m.begun text answer × Appends before now answer
+  pub ended : IsEndedOutside result → (answer : List ℕ) × m.ended result text answer × Appends before now answer
 
 -- What the source has left and the sink holds, where they tell it, and how often each has failed.
 pub record InputOutput : Type 0 where

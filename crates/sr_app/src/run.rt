@@ -13,7 +13,7 @@ ghost use Rattle.sr_words.specs.declared.serving.Serving.{Serving};
 ghost use Rattle.hub_server.specs.Steps.{outside};
 ghost use Rattle.sr_serve.specs.Serving.{environment, serving_line};
 ghost use Rattle.sr_client.specs.Running.{faults};
-ghost use Rattle.sr_app.specs.Run.{Answered, AsksFor, DialsNothing, DrawsNothing, Ends, EndsAdding, EndsDialing, EndsServing, IsEndedOutside, KeepsNothing, ReadsBounded, ReadsNothing, ServesNothing, TellsFaults, WritesOnce, WritesPartFor, add_environment, adding_line, code_of, dial_environment, dialing, doing, meaning_of, input_output, replaying, soaking, usage_line};
+ghost use Rattle.sr_app.specs.Run.{Answered, AsksFor, DialsNothing, DrawsNothing, Ends, EndsAdding, EndsDialing, EndsServing, HasAnswered, IsEndedOutside, KeepsNothing, ReadsBounded, ReadsNothing, ServesNothing, TellsFaults, WritesOnce, WritesPartFor, add_environment, adding_line, code_of, dial_environment, dialing, doing, meaning_of, input_output, recording, replaying, soaking, usage_line};
 ghost use Rattle.sr_script.specs.Script.{refusal_line};
 
 use hf_split::empty_waits;
@@ -22,14 +22,17 @@ use hw_door::{Dialer, Door, Lots};
 use hw_io::{Failed, Sink, Source};
 use sr_check::{Stop, Task};
 use sr_client::{ClientError, long_scripts_are_refused_by_their_front};
-use sr_replay::{ReplayError, replay, reports_have_lines};
-use sr_script::{MOST_SCRIPT, ScriptError, long_is_refused_by_its_front, parse};
+use sr_replay::{RecordError, ReplayError, record, replay, reports_have_lines};
+use sr_script::{
+    MOST_SCRIPT, ScriptError, long_is_refused_by_its_front,
+    long_is_refused_by_its_front_without_peers, parse, parse_without_peers,
+};
 use sr_serve::{ServeError, serve_hub};
 use sr_soak::soak;
 use sr_words::{Adding, Command, Dialing, Serving, WordsError};
 use std::alloc::{AllocError, Global};
 
-const USAGE: &[u8] = b"usage: sr replay, soak, serve, client, check, convert or user\n";
+const USAGE: &[u8] = b"usage: sr replay, record, soak, serve, client, check, convert or user\n";
 
 /// What `user` writes of a user whom the keeper didn't have.
 const ADDED: &[u8] = b"added\n";
@@ -167,6 +170,43 @@ fn run_replay<S: Source, K: Sink>(alloc: Global, input: &mut S, out: &mut K) -> 
     long_is_refused_by_its_front();
     match read_all(alloc, MOST_SCRIPT, input) {
         Ok(text) => answer(alloc, &text, out),
+        Err(ReadError::Failed) => Status::ReadFault,
+        Err(ReadError::NoMemory) => Status::NoMemory,
+    }
+}
+
+/// Records a script of two ends alone, or writes where the text stops being one.
+fn record_text<K: Sink>(alloc: Global, text: &[u8], out: &mut K) -> Status
+    ensures answered { HasAnswered recording text.now result (K.holds out.old) (K.holds out.new) (K.faults out.old) (K.faults out.new) }
+    ensures unfailed { result ≢ Status.WriteFault → K.faults out.new ≡ K.faults out.old }
+    ensures touched { result ≢ Status.WriteFault → IsTouchedByBytesAlone K.holds out.old out.new }
+{
+    let script = match parse_without_peers(alloc, text) {
+        Ok(script) => script,
+        Err(ScriptError::Line(number)) => return refuse(alloc, number, out),
+        Err(ScriptError::NoMemory) => return Status::NoMemory,
+    };
+    match record(alloc, &script, out) {
+        Ok(()) => Status::Done,
+        Err(RecordError::Peers) => unreachable!(),
+        Err(RecordError::Write) => Status::WriteFault,
+        Err(RecordError::NoMemory) => Status::NoMemory,
+    }
+}
+
+/// Records the script that the input holds.
+fn run_record<S: Source, K: Sink>(alloc: Global, input: &mut S, out: &mut K) -> Status
+    ensures ends { Ends recording result
+        (input_output (S.left input.old) (S.faults input.old) (K.holds out.old) (K.faults out.old))
+        (input_output (S.left input.new) (S.faults input.new) (K.holds out.new) (K.faults out.new)) }
+    ensures faults { TellsFaults result
+        (input_output (S.left input.old) (S.faults input.old) (K.holds out.old) (K.faults out.old))
+        (input_output (S.left input.new) (S.faults input.new) (K.holds out.new) (K.faults out.new)) }
+    ensures touched { result ≢ Status.WriteFault → IsTouchedByBytesAlone K.holds out.old out.new }
+{
+    long_is_refused_by_its_front_without_peers();
+    match read_all(alloc, MOST_SCRIPT, input) {
+        Ok(text) => record_text(alloc, &text, out),
         Err(ReadError::Failed) => Status::ReadFault,
         Err(ReadError::NoMemory) => Status::NoMemory,
     }
@@ -430,6 +470,7 @@ fn carry_out<S: Source, K: Sink, D: Door, C: Dialer, R: Keeper, L: Lots>(
 {
     match command {
         Command::Replay => run_replay(alloc, input, out),
+        Command::Record => run_record(alloc, input, out),
         Command::Soak { seed, steps } => run_soak(alloc, seed, steps, out),
         Command::Check { codec } => run_task(alloc, Task::Check { codec }, input, out),
         Command::Convert { from, to } => run_task(alloc, Task::Convert { from, to }, input, out),
