@@ -154,7 +154,7 @@ class Lines:
 
 # ---- words
 
-USAGE = 1, b"usage: sr replay, soak, serve, client, check, convert or user\n"
+USAGE = 1, b"usage: sr replay, soak, serve, client, check, convert, user or record\n"
 CODECS = "json", "pack"
 MOST = 2**64 - 1
 LONG = object()  # what would serve, dial or soak for long, or make a file

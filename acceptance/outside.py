@@ -63,7 +63,7 @@ SOAKED = b"seed 1 actions 1 calls 1 endings 1 live 0 links 2\n"
 LONGEST_SOAK = rb"seed 18446744073709551615 actions 100000 calls (\d+) endings \1 live 0 links (\d+)\n"
 SERVES = b"serving 0\n"
 BASE_SAID = "/chat/hub"
-USAGE = b"usage: sr replay, soak, serve, client, check, convert or user\n"
+USAGE = b"usage: sr replay, soak, serve, client, check, convert, user or record\n"
 NOTHING = b""
 
 

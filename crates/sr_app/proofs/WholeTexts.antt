@@ -19,7 +19,7 @@ abbrev pub IsOfShort : ℕ → Answers → Type 0
 IsOfShort most A = (text answer : List ℕ) → A text answer → length text ≤ most
 
 pub short_stays : (most : ℕ) (A : Answers) → IsOfShort most A → StaysOfLong most A
-short_stays most A short front more answer long is = omega (arith, long, short front answer is)
+short_stays most A short front more answer long is = absurd (omega (arith, long, short front answer is))
 
 -- What a command of this meaning answers to a text of which so many bytes were read at most.
 pub record IsOfText (most : ℕ) (m : Meaning) : Type 0 where

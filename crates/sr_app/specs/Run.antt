@@ -20,7 +20,7 @@ use Rattle.hub_server.specs.Resend.{limits_with}
 use Rattle.sr_script.specs.Script.{Program, Parses, IsRefusedAt, IsRefusedWithoutPeers, refusal_line, most_script}
 use Rattle.sr_script.specs.Reading.{ParsesWithoutPeers}
 use Rattle.sr_replay.specs.Report.{IsReportOf}
-use Rattle.sr_replay.specs.Trace.{IsPart, IsTrace}
+use Rattle.sr_replay.specs.Trace as traces
 use Rattle.sr_soak.specs.declared.totals.Totals.{Totals}
 use Rattle.sr_soak.specs.Soaks.{IsSoak, soak_line}
 use Rattle.sr_check.specs.declared.task.Task.{Task}
@@ -46,7 +46,7 @@ use Rattle.sr_client.specs.Running.{Faults, HasRun, IsCausedBy, IsSetup, WentSo,
 use Rattle.sr_script.specs.declared.script.ScriptError.TheVariants.{Line}
 
 abbrev pub usage_line : List ℕ
-usage_line = codes "usage: sr replay, record, soak, serve, client, check, convert or user\n"
+usage_line = codes "usage: sr replay, soak, serve, client, check, convert, user or record\n"
 
 -- the exit status, as the shell has it
 abbrev pub code_of : Status → ℕ
@@ -163,13 +163,13 @@ of_text most Answer Refusal Front = record {
 pub record IsRecorded (text trace : List ℕ) : Type 0 where
   pub asks : Program
   pub script : ParsesWithoutPeers text asks
-  pub trace_is : IsTheOne (IsTrace asks) trace
+  pub trace_is : IsTheOne (traces.IsTrace asks) trace
 
 -- this is a first part of that
 pub record IsRecordedFront (text front : List ℕ) : Type 0 where
   pub asks : Program
   pub script : ParsesWithoutPeers text asks
-  pub front_is : IsPart asks front
+  pub front_is : traces.IsPart asks front
 
 -- the text is no such script, and this is its refusal
 pub record IsRefusedToRecord (text answer : List ℕ) : Type 0 where

@@ -1,4 +1,4 @@
-use Rattle.std.proofs.Common.{◌≡◌, true, false, refl, sym, subst, ◌∙◌, inl, inr}
+use Rattle.std.proofs.Common.{◌≡◌, ap, refl, sym, subst}
 use Rattle.sr_script.specs.Reading.{RefusesWithoutPeers}
 use Rattle.sr_script.specs.Script.{Parses}
 use Rattle.sr_app.proofs.Recorded.{recorded, recorded_front, recorded_nothing, recorded_part, refused_to_record}
