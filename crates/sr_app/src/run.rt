@@ -495,7 +495,8 @@ fn carry_out<S: Source, K: Sink, D: Door, C: Dialer, R: Keeper, L: Lots>(
 /// | 5 | `serve`: the door failed; `client`: the dialer failed; what it was given before stands |
 /// | 6 | `serve`: the keeper failed when it was asked how many rows there are; nothing was written or heard |
 /// | | `user`: the keeper failed when it was asked to add the user; nothing was written, and users and rows are as before |
-/// | 7 | out of memory; nothing was written but what is written of some frames that were read, or the line with which `serve` begins |
+/// | 7 | out of memory; nothing was written but what is written of some frames that were read, a first part of what `record` writes, or the line |
+/// | | with which `serve` begins |
 /// | | `client`: nothing was written but what it printed before |
 /// | 8 | `client`: the server refused it or closed the connection, what came can't be read, or the connection was lost for good |
 /// | 9 | `client`: the lots failed |

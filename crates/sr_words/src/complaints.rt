@@ -11,7 +11,8 @@ use clap::ArgMatches;
 use std::alloc::{AllocError, Global};
 
 /// The commands that there are.
-const COMMANDS: &str = "the commands are replay, soak, serve, client, check, convert, user and record";
+const COMMANDS: &str =
+    "the commands are replay, soak, serve, client, check, convert, user and record";
 
 /// What is wrong with words that are no command, and what the command that they name takes, in one line without its end.
 pub fn complaint(alloc: Global, words: &[String]) -> Result<String, AllocError> {
