@@ -9,7 +9,7 @@ drawn, 100 of the seed 1 if it isn't given. It isn't part of the gate.
 
 What has to be drawn follows from the script of a session: it is written here by hand, or read off the ends of replay_model.py, which play
 the script and share no code with the page. The sessions are the scripts of examples/, those of acceptance/sessions/ and random ones; a
-session of two ends is also drawn from its trace, written here from what the model's ends did. The last line is 'N passed, N failed'; the
+session of two ends is also drawn from its trace, which is that of trace_model.py. The last line is 'N passed, N failed'; the
 status is 0 if none failed."""
 import base64
 import collections
@@ -25,8 +25,8 @@ import tempfile
 
 import replay_model
 import sessions
+import trace_model
 from chat import Browser, Page, Trial
-from replay_model import json_text, spell
 
 TOP = pathlib.Path(__file__).resolve().parent.parent
 VIEWER = TOP / "examples" / "viewer" / "index.html"
@@ -41,67 +41,12 @@ MOST_LINES = 400  # of a script that is drawn, since the model scans its lists a
 # ---- what a script comes to, by the ends of the model
 
 
-class Recorder(replay_model.Script):
-    """A script of two ends that writes down each of their steps, as lines of a trace."""
-
-    def __init__(self):
-        super().__init__()
-        self.trace, self.bytes = [], collections.defaultdict(bytes)
-
-    def begin(self):
-        super().begin()
-        for side, end in self.ends.items():
-            end.steps = Steps(lambda step, side=side: self.note(side, step))
-
-    def note(self, side, step):
-        end, (kind, *parts) = self.ends[side], step
-        if kind == "attached":
-            self.trace.append(f"{side} attach {parts[0]}")
-        elif kind == "detached":
-            self.trace.append(f"{side} detach")
-        elif kind in ("ticked", "silenced"):
-            self.trace.append(f"{side} tick {parts[0]}")
-        elif kind == "closed":
-            self.trace.append(f"{side} close")
-        elif kind == "sent":
-            self.trace.append(f"{side} sent {parts[0]}")
-        elif kind == "lent":
-            spelled = spell(parts[0], end.codec)
-            self.bytes[side, end.link()] += spelled
-            self.trace.append(f"{side} lent {spelled.hex()}")
-        elif kind == "fed":
-            at = len(end.fed(end.link()))
-            piece = self.bytes[OTHER[side], end.link()][at : at + len(parts[0])]
-            self.trace.append(f"{side} fed {piece.hex()}")
-
-    def take(self, side, frame):
-        super().take(side, frame)
-        self.trace.append(f"{side} took {self.report[-1][2:]}")
-
-    def text_of_trace(self):
-        end = self.ends["c"]
-        first = f"trace {end.codec} {end.version} {'on' if end.reconnect else 'off'} {' '.join(map(str, end.limits))}"
-        return "".join(line + "\n" for line in [first, *self.trace])
-
-
-class Steps(replay_model.Steps):
-    """Steps of which each is noted before it is made."""
-
-    def __init__(self, note):
-        super().__init__()
-        self.note = note
-
-    def append(self, step):
-        self.note(step)
-        super().append(step)
-
-
 def play(text):
     """The script as the model has played it."""
     lines = text.removesuffix("\n").split("\n") if text else []
     played = replay_model.new_script(lines)
     if type(played) is replay_model.Script:
-        played = Recorder()
+        played = trace_model.Recorder()
     for line in lines:
         played.line(line)
     if not played.begun:
@@ -516,7 +461,7 @@ def try_session(page, program, text):
     page.draw(report)
     if page.fault() or not page.is_drawn():
         return f"its report alone: {page.fault()}"
-    if isinstance(played, Recorder):
+    if isinstance(played, trace_model.Recorder):
         page.draw(played.text_of_trace())
         if page.fault() or page.counts() != wanted(played):
             return f"its trace: {page.fault()}\n  drawn {page.counts()}\n  wanted {wanted(played)}\n{played.text_of_trace()}"
