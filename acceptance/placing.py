@@ -29,7 +29,7 @@ UNSEEN = '{"arguments":[],"target":"unseen","type":1}'
 
 
 class Cannot(Exception):
-    """No history says what was seen there: the place among what was seen, and why."""
+    """No history says what was seen there: its arguments are the place among what was seen, and the lines before it."""
 
 
 class End:
@@ -172,7 +172,8 @@ class Placed:
         """A moment came. A silence is told as late as can be, as the end may have been given something by then that it hadn't room for here."""
         marks = self.ends[side].marks
         self.now = max(self.now, moment)
-        if self.now > self.clock and not (marks.link is not None and marks.heard is not None and self.now >= marks.heard + SILENCE): self.tick(side, self.now)
+        is_silence = marks.link is not None and marks.heard is not None and self.now >= marks.heard + SILENCE
+        if self.now > self.clock and not is_silence: self.tick(side, self.now)
 
     def lend(self, side, data):
         marks = self.ends[side].marks
@@ -323,7 +324,7 @@ def main(words):
     sides = {line[:1] for line in recording.decode(errors="replace").split("\n")[1:-1]}
     try: sys.stdout.write(whole(recording, sides.pop() if len(sides) == 1 else None))
     except BadLine as bad: sys.exit(f"placing: line {bad.args[0]} refused")
-    except Cannot as why: sys.exit(f"placing: nothing was found that says what was seen at place {why.args[0]} of the recording, after these lines:\n" + "\n".join(why.args[1][-20:]))
+    except Cannot as why: sys.exit("\n".join([f"placing: nothing was found that says line {why.args[0] + 2} of the recording, after", *why.args[1][-20:]]))
     return 0
 
 

@@ -296,7 +296,7 @@ def message_of(text):
 
 def is_text(line):
     """A line that was no UTF-8 has letters in it that no text has."""
-    return not any("\udc80" <= letter <= "\udcff" for letter in line)
+    return line.isascii() or not any("\udc80" <= letter <= "\udcff" for letter in line)
 
 
 def number_of(word):

@@ -65,8 +65,8 @@ class Tally(tap.Trial):
 
 
 def answer(program, words, data):
-    run = subprocess.run([program, *words], input=data, capture_output=True, timeout=SECONDS)
-    return run.stdout.decode(errors="replace"), run.returncode
+    done = subprocess.run([program, *words], input=data, capture_output=True, timeout=SECONDS)
+    return done.stdout.decode(errors="replace"), done.returncode
 
 
 def audit_words(side):
@@ -95,8 +95,9 @@ def row_faults(program, script):
     faults = differences(wanted, answer(program, ["record"], script))
     if wanted[1]:
         return faults
-    told = trace_marks.audit(wanted[0].encode())
-    return faults + ([] if told[1] == 0 else [f"the trace is no world: {told[0]}"]) + differences(told, answer(program, ["audit"], wanted[0].encode()))
+    trace = wanted[0].encode()
+    told = trace_marks.audit(trace)
+    return faults + ([] if told[1] == 0 else [f"the trace is no world: {told[0]}"]) + differences(told, answer(program, ["audit"], trace))
 
 
 def row_cases(program):
@@ -109,6 +110,7 @@ def row_cases(program):
 
 FIRST = "trace json 2 on 1024 100000 32768"
 ASK, TAKEN = b'{"protocol":"json","version":2}\x1e'.hex(), b"{}\x1e".hex()
+ASK_PACK, ASK_ONE = (text.encode().hex() for text in ('{"protocol":"messagepack","version":1}\x1e', '{"protocol":"json","version":1}\x1e'))
 CALL = '{"arguments":[],"target":"a","type":1}'
 CLOSE, CLOSE_AND_COME = (text.encode().hex() for text in ('{"type":7}\x1e', '{"allowReconnect":true,"error":"x","type":7}\x1e'))
 OPENED = ["c attach 0", "s attach 0", f"c lent {ASK}", f"s fed {ASK}", "s took shaken", f"s lent {TAKEN}", f"c fed {TAKEN}", "c took shaken"]
@@ -171,8 +173,8 @@ ALONE = [
     ("s", [*SERVED, "s attach 0"], "line 6 breaks link"),
     ("c", ["c attach 4", f"c lent {ASK}", f"c fed {TAKEN}", "c took shaken", "c attach 3"], "line 6 breaks link"),
     # A server goes on in the codec and the version of the request, whatever the first line has.
-    ("s", ["s attach 0", "s fed " + b'{"protocol":"messagepack","version":1}\x1e'.hex(), "s took shaken", f"s lent {TAKEN}", "s fed 029106", "s took ping"], "history s sent 0 processed 0"),
-    ("s", ["s attach 0", "s fed " + b'{"protocol":"json","version":1}\x1e'.hex(), "s took shaken", "s attach 1"], "line 5 breaks link"),
+    ("s", ["s attach 0", f"s fed {ASK_PACK}", "s took shaken", f"s lent {TAKEN}", "s fed 029106", "s took ping"], "history s sent 0 processed 0"),
+    ("s", ["s attach 0", f"s fed {ASK_ONE}", "s took shaken", "s attach 1"], "line 5 breaks link"),
     ("s", ["s attach 0", "s fed 781e", "s took shaken"], "line 4 breaks took"),
     ("s", ["s attach 0", "s fed 781e", "s lent " + b'{"error":"The handshake is not JSON."}\x1e'.hex()], "line 4 breaks due"),
     ("s", [*SERVED, "s fed " + b'{"type":77}\x1e'.hex(), "s took skipped unknown 77"], "history s sent 0 processed 0"),
@@ -188,10 +190,13 @@ ALONE = [
 REFUSED = ["x", "", "#", "c", "c ", " c detach", "c  detach", "c detach ", "c detach\r", "C detach", "x detach", "c attach", "c attach 00", "c attach -1"]
 REFUSED += ["c attach 18446744073709551616", "c attach 0 0", "c attach *", "c fed", "c fed 0", "c fed 0G", "c fed AB", "c fed 0x00", "c fed 00 00", "c fed --"]
 REFUSED += ["c lent -", "c lent", "c lent 0", "c sent", "c sent {}", 'c sent {"type":6}', f"c sent {CALL} ", "c sent " + CALL.replace(",", ", ", 1)]
-REFUSED += ['c sent {"type":1,"target":"a","arguments":[]}', "c took", "c took ", "c tick", "c tick 01", "c tick 1.0", "c close x", "c failed", "trace json 2 on 1 261 256"]
-HEADS = ["", "x", "trace", "trace json 2 on 1024 100000", "trace json 0 on 1024 100000 32768", "trace json 4 on 1024 100000 32768", "trace JSON 2 on 1024 100000 32768"]
+REFUSED += ['c sent {"type":1,"target":"a","arguments":[]}', "c took", "c took ", "c tick", "c tick 01", "c tick 1.0", "c close x", "c failed"]
+REFUSED += ["trace json 2 on 1 261 256"]
+HEADS = ["", "x", "trace", "trace json 2 on 1024 100000", "trace json 0 on 1024 100000 32768", "trace json 4 on 1024 100000 32768"]
+HEADS += ["trace JSON 2 on 1024 100000 32768"]
 HEADS += ["trace json 2 yes 1024 100000 32768", "trace json 2 on 0 100000 32768", "trace json 2 on 65537 100000 32768", "trace json 2 on 1 260 256"]
-HEADS += ["trace json 2 on 1 261 255", "trace json 2 on 01 261 256", "trace json 2 on 1 16777217 256", "trace json 2 on 1 16777216 1048577", f"{FIRST} ", f"{FIRST}\r", "c attach 0"]
+HEADS += ["trace json 2 on 1 261 255", "trace json 2 on 01 261 256", "trace json 2 on 1 16777217 256", "trace json 2 on 1 16777216 1048577"]
+HEADS += [f"{FIRST} ", f"{FIRST}\r", "c attach 0"]
 ALLOWED = ["c took x", "c took x\r", "c took  ", "c fed -", "s took é", "c tick 18446744073709551615", "c attach 18446744073709551615"]
 
 
