@@ -103,6 +103,8 @@ class Both:
             await taps.listen(self.taps[side], self.ports[side], (HOST, self.targets[side]))
         up.set()
         await self.ended.wait()
+        # A socket of a client that stays is left in the middle, of which asyncio complains.
+        self.loop.set_exception_handler(lambda *_: None)
         others = asyncio.all_tasks() - {asyncio.current_task()}
         for task in others:
             task.cancel()
