@@ -1,0 +1,4 @@
+pub mod Lines
+pub mod Once
+pub mod Fronts
+pub mod Passing
