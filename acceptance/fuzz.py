@@ -12,6 +12,7 @@ wanted is made small and shown; after three of them it ends. The last line is 'N
 |---|---|---|
 | json, pack | frames in a stream for `check` and `convert` | frames_model.py: all of it |
 | replay | scripts of `sr replay`, their bytes and their lines | replay_model.py: all of it |
+| record | the same of `sr record`, most without peers | trace_model.py: all of it |
 | lines | scripts of `sr client` without a turn | fuzz_scripts.py: which line is refused |
 | words | the command line | fuzz_scripts.py: all, but whether strange URLs are some; what would serve, dial or soak for long isn't run |
 | http, sockets | what a client says to `sr serve` at once: requests, and a WebSocket with frames of the hub | serving_model.py: each reply, pong, frame of the hub \
@@ -38,13 +39,14 @@ HERE = pathlib.Path(__file__).resolve().parent
 # Inputs of each kind in a round.
 KINDS = {
     "replay": fuzz_scripts.Replays,
+    "record": fuzz_scripts.Records,
     "lines": fuzz_scripts.Lines,
     "words": fuzz_scripts.Words,
     "http": fuzz_serving.Requests,
     "sockets": fuzz_serving.Sockets,
     "dialed": fuzz_dialing.Dialed,
 }
-SHARES = {"json": 300, "pack": 300, "replay": 50, "lines": 100, "words": 20, "http": 100, "sockets": 120, "dialed": 10}
+SHARES = {"json": 300, "pack": 300, "replay": 50, "record": 50, "lines": 100, "words": 20, "http": 100, "sockets": 120, "dialed": 10}
 MOST_FAILED = 3
 EACH = 60  # seconds between two words of how far it is
 SHOWN = 1_500

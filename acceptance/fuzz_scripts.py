@@ -1,8 +1,9 @@
-"""The kinds `replay`, `lines` and `words` of fuzz.py: scripts of `sr replay`, lines of scripts of `sr client`, and words of the command line.
+"""The kinds `replay`, `record`, `lines` and `words` of fuzz.py: scripts of `sr replay` and `sr record`, lines of scripts of `sr client`, and words of
+the command line.
 
-replay_model.py decides all of the first. A client without turns dials nobody and tells only which line is refused, by the table in docs/protocol.md;
-so lines that are taken go in front of the next one that isn't. Words are a command as docs/protocol.md has it and clap takes its options; one that would
-serve, dial or soak for long isn't run."""
+replay_model.py decides all of the first, and trace_model.py all of the second. A client without turns dials nobody and tells only which line is
+refused, by the table in docs/protocol.md; so lines that are taken go in front of the next one that isn't. Words are a command as docs/protocol.md has
+it and clap takes its options; one that would serve, dial or soak for long isn't run."""
 import ipaddress
 import itertools
 import random
@@ -12,11 +13,13 @@ from pathlib import Path
 import frames_model
 import replay_model
 import soak_model
+import trace_model
 from fuzz_kit import Difference, compared, mutated
 from replay_model import Refused, number_of
 
 HERE = Path(__file__).resolve().parent
 BASES = 150  # scripts that are mutated
+WITH_PEERS = 0.05  # of those for `record`, which refuses them
 MOVED = 0.7  # of these, lines are moved too
 DRAWS = 12
 TAKEN_ANYHOW = 0.1
@@ -44,11 +47,14 @@ def moved(draw, script, other):
 
 
 class Replays:
-    name = "replay"
+    name, model = "replay", staticmethod(replay_model.report_of)
 
     def __init__(self, runs):
         self.runs = runs
-        self.scripts = [replay_model.random_script(random.Random(f"base {number}")).encode() for number in range(BASES)]
+        self.scripts = [script.encode() for script in itertools.islice(self.bases(), BASES)]
+
+    def bases(self):
+        return (replay_model.random_script(random.Random(f"base {number}")) for number in itertools.count())
 
     def input(self, draw):
         script = draw.choice(self.scripts)
@@ -58,16 +64,24 @@ class Replays:
 
     def again(self, data):
         try:
-            text, status = replay_model.report_of(data)
+            text, status = self.model(data)
         except RecursionError:  # a model that keeps lists is at its end before the program is
             return None
-        return compared((status, text.encode()), self.runs(["replay"], data))
+        return compared((status, text.encode()), self.runs([self.name], data))
 
     def differences(self, draw, count):
         for _ in range(count):
             data = self.input(draw)
             if self.again(data):
-                yield Difference("sr replay", data, self.again)
+                yield Difference(f"sr {self.name}", data, self.again)
+
+
+class Records(Replays):
+    name, model = "record", staticmethod(trace_model.record)
+
+    def bases(self):
+        draw = random.Random("bases of record")
+        return (script for script in super().bases() if not script.startswith("peers on") or draw.random() < WITH_PEERS)
 
 
 # ---- lines of a client's script
@@ -256,6 +270,11 @@ def replay(rest):
     return 0, replay_model.report_of("")[0].encode()
 
 
+def record(rest):
+    read_words(rest, {}, [])
+    return 0, trace_model.record("")[0].encode()
+
+
 def check(rest):
     read_words(rest, {}, [codec])
     return 0, b""
@@ -292,11 +311,12 @@ def user(rest):
     return LONG
 
 
-COMMANDS = {"replay": replay, "check": check, "convert": convert, "soak": soak, "serve": serve, "client": client, "user": user}
+COMMANDS = {"replay": replay, "record": record, "check": check, "convert": convert, "soak": soak, "serve": serve, "client": client, "user": user}
 SERVES = b"serve\n--port\n0\n--base\n/a/b.c\n--listen\n127.0.0.1\n--resend\n1024\n100000\n--live\n100\n--turns\n0"
 CALLS = b"client\nhttp://127.0.0.1:9/hub\n--codec\njson\n--token\nab\n--resend\n1\n32773\n--turns\n0"
 LINES = [SERVES, SERVES, CALLS, CALLS, b"client\n--turns=0\n--codec=pack\n--token=-x\nhttp://localhost/hub", b"serve\n--turns=0\n--listen=::1\n--port=80",
-         b"user\nab\nann\n--store=s", b"check\njson", b"check\n--\npack", b"convert\njson\npack", b"convert\npack\njson", b"replay", b"replay\n--", b"soak\n7\n20", b"soak\n--\n+07\n0"]
+         b"user\nab\nann\n--store=s", b"check\njson", b"check\n--\npack", b"convert\njson\npack", b"convert\npack\njson", b"replay", b"replay\n--", b"record", b"record\n--",
+         b"soak\n7\n20", b"soak\n--\n+07\n0"]
 
 
 def words_of(data):

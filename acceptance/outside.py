@@ -169,9 +169,9 @@ def datagrams(ours):
             yield ours.recv(MOST_WRITTEN)
 
 
-def little_memory(program):
+def little_memory(words):
     limit = lambda: resource.setrlimit(resource.RLIMIT_DATA, (LITTLE_MEMORY, LITTLE_MEMORY))  # noqa: E731
-    return run(program, "replay", input=LONG_SCRIPT, preexec_fn=limit)[:2]
+    return lambda program: run(program, words, input=LONG_SCRIPT, preexec_fn=limit)[:2]
 
 
 def of_port(address, words, wanted, port=0):
@@ -261,6 +261,10 @@ CASES = {
     "replay, and the input fails at once": of_input("replay", folder, (3, NOTHING)),
     "replay, and the input fails behind a script": of_input("replay", lambda: broken_off(SCRIPT), (3, NOTHING)),
     "replay, and the output is full": of_output("replay", SCRIPT, 4),
+    "record, and the input fails at once": of_input("record", folder, (3, NOTHING)),
+    "record, and the input fails behind a script": of_input("record", lambda: broken_off(SCRIPT), (3, NOTHING)),
+    "record, and the output is full": of_output("record", SCRIPT, 4),
+    "record of no script, and the output is full": of_output("record", b"frob\n", 4),
     "replay with a script to its end": (lambda program: run(program, "replay", input=SCRIPT)[:2], (0, REPORT)),
     "check, and the input fails at once": of_input("check json", folder, (3, NOTHING)),
     "check, and the input fails behind two frames": of_input("check json", lambda: broken_off(PINGS), (3, LINES)),
@@ -278,7 +282,8 @@ CASES = {
     "soak, and the output is full": of_output("soak 1 1", NOTHING, 4),
     "no command, and the output is full": of_output("frob", NOTHING, 4),
     "a word that isn't UTF-8": (lambda program: run(program, [b"check", b"json", b"\xff"])[:2], (1, USAGE)),
-    "little memory": (little_memory, (7, NOTHING)),
+    "little memory": (little_memory("replay"), (7, NOTHING)),
+    "record, and little memory": (little_memory("record"), (7, NOTHING)),
     "the longest soak of the greatest seed": (longest_soak, (0, True)),
     "three turns of serve": (lambda program: run(program, "serve --port 0 --turns 3")[:2], (0, SERVES)),
     "serve doesn't read its input": of_input("serve --port 0 --turns 1", folder, (0, SERVES)),

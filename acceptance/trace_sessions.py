@@ -1,19 +1,20 @@
 #!/usr/bin/env python3
 """Has `sr record` write down sessions and `sr audit` judge traces, good and spoiled, of two ends and of one.
 
-    acceptance/trace_sessions.py [PROGRAM] [--spoiled N] [--seed SEED]
+    acceptance/trace_sessions.py [PROGRAM] [--record] [--scripts N] [--spoiled N] [--seed SEED]
 
-PROGRAM is bin/sr by default. Four parts:
+PROGRAM is bin/sr by default. Five parts, of which there are the first two with `--record`, and no program of ours is asked for an audit then:
 
     rows         of each script of replay.toml the trace, and what an audit says of it
+    scripts      the same of N random scripts without peers, 300 if it isn't given
     by hand      traces of which each has its verdict here, by docs/traces.md, and lines that no trace has
     spoiled      N traces of random scripts, 500 if it isn't given, and of each of their ends alone, of which most have one line changed, dropped,
                  doubled, swapped or put in
     recordings   what examples/tap recorded of clients in Python and in JavaScript, of sockets by hand and of `PROGRAM client`, through losses,
                  once placing.py has put in what no proxy sees: each is a history of the server's end
 
-What has to come of the first and the last two is what trace_model.py and trace_marks.py say, which share no code with the program. The last
-line is 'N passed, N failed', with ', N skipped' after it if a client isn't installed; the status is 0 if none failed."""
+What has to come of all but those by hand is what trace_model.py and trace_marks.py say, which share no code with the program. The last line
+is 'N passed, N failed', with ', N skipped' after it if a client isn't installed; the status is 0 if none failed."""
 import argparse
 import concurrent.futures
 import itertools
@@ -66,7 +67,7 @@ class Tally(tap.Trial):
 
 def answer(program, words, data):
     done = subprocess.run([program, *words], input=data, capture_output=True, timeout=SECONDS)
-    return done.stdout.decode(errors="replace"), done.returncode
+    return done.stdout.decode(errors="surrogateescape"), done.returncode
 
 
 def audit_words(side):
@@ -76,7 +77,8 @@ def audit_words(side):
 def differences(wanted, got):
     if wanted == got:
         return []
-    shown = [f"status {status}, {run.shown(text.encode(), other[0].encode())}" for (text, status), other in ((wanted, got), (got, wanted))]
+    texts = [text.encode(errors="surrogateescape") for text, _ in (wanted, got)]
+    shown = [f"status {status}, {run.shown(*pair)}" for (_, status), pair in ((wanted, texts), (got, texts[::-1]))]
     return [f"want {shown[0]}", f"got  {shown[1]}"]
 
 
@@ -87,23 +89,30 @@ def audited(program, data, side=None):
     return differences(wanted, answer(program, audit_words(side), data))
 
 
-# ---- rows
+# ---- rows and random scripts
 
 
-def row_faults(program, script):
+def script_faults(program, script, is_audited):
+    """What is wrong with the trace of a script, and, if that is audited by the program, with what it says of it."""
     wanted = trace_model.record(script)
     faults = differences(wanted, answer(program, ["record"], script))
     if wanted[1]:
         return faults
     trace = wanted[0].encode()
     told = trace_marks.audit(trace)
-    return faults + ([] if told[1] == 0 else [f"the trace is no world: {told[0]}"]) + differences(told, answer(program, ["audit"], trace))
+    faults += [] if told[1] == 0 else [f"the trace is no world: {told[0]}"]
+    return faults + (differences(told, answer(program, ["audit"], trace)) if is_audited else [])
 
 
-def row_cases(program):
+def row_cases(program, is_audited):
     table = rows.read(TOP / "acceptance" / "replay.toml")
     for row in table["row"]:
-        yield row["name"], row_faults(program, run.bytes_of(row["input"], table.get("pieces", {})))
+        yield row["name"], script_faults(program, run.bytes_of(row["input"], table.get("pieces", {})), is_audited)
+
+
+def random_cases(program, given):
+    for script in spoiled_traces.scripts(given.seed, given.scripts):
+        yield repr(script), script_faults(program, script.encode(), not given.record)
 
 
 # ---- by hand
@@ -323,16 +332,20 @@ def recorded_cases(program, tally):
 def main():
     words = argparse.ArgumentParser(description=__doc__, formatter_class=argparse.RawDescriptionHelpFormatter)
     words.add_argument("program", nargs="?", default=str(TOP / "bin" / "sr"))
+    words.add_argument("--record", action="store_true")
+    words.add_argument("--scripts", type=int, default=300, metavar="N")
     words.add_argument("--spoiled", type=int, default=500, metavar="N")
     words.add_argument("--seed", default="1")
     given = words.parse_args()
     # The first call of bin/sr may prove and build, and has no time limit for that.
     subprocess.run([given.program, "check", "json"], stdin=subprocess.DEVNULL, stdout=subprocess.DEVNULL)
     tally = Tally()
-    tally.part("rows", row_cases(given.program))
-    tally.part("by hand", hand_cases(given.program))
-    tally.part("spoiled", spoiled_cases(given.program, given.seed, given.spoiled))
-    tally.part("recordings", recorded_cases(given.program, tally))
+    tally.part("rows", row_cases(given.program, not given.record))
+    tally.part("scripts", random_cases(given.program, given))
+    if not given.record:
+        tally.part("by hand", hand_cases(given.program))
+        tally.part("spoiled", spoiled_cases(given.program, given.seed, given.spoiled))
+        tally.part("recordings", recorded_cases(given.program, tally))
     print(f"{tally.passed} passed, {tally.failed} failed" + f", {tally.skipped} skipped" * (tally.skipped > 0))
     return 1 if tally.failed or not tally.passed else 0
 
