@@ -111,8 +111,9 @@ def row_cases(program, is_audited):
 
 
 def random_cases(program, given):
-    for script in spoiled_traces.scripts(given.seed, given.scripts):
-        yield repr(script), script_faults(program, script.encode(), not given.record)
+    for number, script in enumerate(spoiled_traces.scripts(given.seed, given.scripts)):
+        faults = script_faults(program, script.encode(), not given.record)
+        yield f"number {number} of seed {given.seed}", [*faults, *script.splitlines()] if faults else []
 
 
 # ---- by hand
