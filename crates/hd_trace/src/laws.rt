@@ -105,8 +105,8 @@ pub fn takes_are_marked()
     ensures { TakesAreMarked }
 {}
 
-/// A tick right before a link begins has no effect after that, a silence neither; one right before a loss has none off the link, and a silence is a
-/// loss.
+/// A tick right before a link begins has no effect after that, a silence neither, and the link may begin exactly if it might without it; one right
+/// before a loss has none off the link, and a silence is a loss.
 pub fn ticks_before_links()
     ensures { TicksBeforeLinks }
 {}
