@@ -23,6 +23,7 @@
 //! The crate doesn't know files, nor the code of an end.
 #![tactic(auto)]
 
+mod audit;
 mod error;
 mod head;
 mod laws;
@@ -31,6 +32,7 @@ mod reader;
 mod trace;
 mod worked;
 
+pub use audit::Audit;
 pub use error::TraceError;
 pub use head::Head;
 pub use laws::{lines_are_lines, long_is_refused_by_its_front, traces_are_told_once};
