@@ -20,3 +20,5 @@ pub mod AuditStart
 pub mod AuditSaying
 pub mod AuditSent
 pub mod AuditTaking
+pub mod AuditStanding
+pub mod AuditPassing

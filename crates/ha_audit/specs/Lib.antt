@@ -6,3 +6,5 @@ pub mod AuditState
 pub mod AuditKeeps
 pub mod AuditSteps
 pub mod AuditLaws
+pub mod AuditStill
+pub mod AuditVerdict

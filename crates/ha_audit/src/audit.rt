@@ -16,6 +16,7 @@ mod lending;
 mod said;
 mod sending;
 mod sent;
+mod standing;
 mod taking;
 
 use crate::head::Head;
