@@ -18,7 +18,7 @@ use Rattle.hd_delivery.specs.AloneLaws.{FramesAreTaken}
 use Rattle.hd_trace.specs.declared.trace.TraceLine.{TraceLine}
 use Rattle.hd_trace.specs.Traces.{Setup, clock, steps_of}
 use Rattle.hd_trace.specs.Recording.{told_step, line_of, lines_of, CanBeTold, AllCanBeTold}
-use Rattle.hd_trace.specs.Laws.{RecordsTell}
+use Rattle.hd_trace.specs.Laws.{LinesTellOneWorld, RecordsTell}
 use Rattle.sr_notation.specs.Terms.{limits_in, terms_in}
 use Rattle.sr_script.specs.declared.action.Action.{Action}
 use Rattle.sr_script.specs.declared.action.Action.TheVariants as action
@@ -262,14 +262,16 @@ module _ (x : Setup) where
 
 -- ---- the trace of a script
 
-pub traces_tell : FramesAreTaken → RecordsTell → (p : Program) (text : List ℕ) (wire : Wire) → AreInTurn p.actions → IsTraceOver wire p text → IsTold wire p text
-traces_tell taken records p text wire turns is =
+pub traces_tell : FramesAreTaken → LinesTellOneWorld → RecordsTell → (p : Program) (text : List ℕ) (wire : Wire) → AreInTurn p.actions → IsTraceOver wire p text → IsTold wire p text
+traces_tell taken once records p text wire turns is =
     let x = setup_in wire p.settings in
     let w = world_of is.reported.run in
     let clocked = on_clock taken x (limits_in p.settings) wire (terms_in p.settings) p.actions is.reported.run turns is.reported.runs.holds in
-    let can = all_can x w is.reported.delivers.holds.client_faultless is.reported.delivers.holds.server_faultless clocked.told in record {
+    let can = all_can x w is.reported.delivers.holds.client_faultless is.reported.delivers.holds.server_faultless clocked.told in
+    let tell = records x w is.reported.world can in record {
+      run = is.reported.run;
+      runs = is.reported.runs;
       lines = lines_of x w;
-      world = w;
-      tell = records x w is.reported.world can;
+      tell = record { holds = tell; only = λ other told. once x (lines_of x w) other w told tell };
       text_is = is.text_is;
     }

@@ -17,7 +17,7 @@ use Rattle.hd_trace.specs.Recording.{told_step, line_of, line_at, lines_of}
 use Rattle.he_wire.specs.Laws.{HasWire}
 use Rattle.he_wire.specs.Wires.{IsHouseWire}
 use Rattle.sr_notation.specs.declared.setting.Setting.{Setting}
-use Rattle.sr_notation.specs.Terms.{limits_in, terms_in}
+use Rattle.sr_notation.specs.Terms.{limits_in, peers_in, terms_in}
 use Rattle.sr_script.specs.declared.action.Action.{Action}
 use Rattle.sr_script.specs.Script.{Program, Parses}
 use Rattle.sr_replay.specs.declared.pair.Pair.{Pair}
@@ -148,14 +148,19 @@ is_part has once p bytes over = record {
 abbrev pub PutsPartOf : List ℕ → Option (List ℕ) → Option (List ℕ) → Type 0
 PutsPartOf script before now = (p : Program) → Parses script p → (bytes : List ℕ) × (IsPart p bytes × Appends before now bytes)
 
+-- they were, if the script is one without peers
+abbrev pub PutsPartOfEnds : List ℕ → Option (List ℕ) → Option (List ℕ) → Type 0
+PutsPartOfEnds script before now = (p : Program) → Parses script p → peers_in p.settings ≡ false → (bytes : List ℕ) × (IsPart p bytes × Appends before now bytes)
+
 -- a trace is some bytes
 pub head_is_some : (p : Program) (bytes : List ℕ) → head_line p.settings ++ bytes ≡ [] → ⊥
 head_is_some p bytes e = (let z : ◌≡◌ {A = List ℕ} (116 ∷ drop 1 (head_line p.settings ++ bytes)) [] = e in cc)
 
 -- before an action is done, that is some of the head
-head_over : (p : Program) (n : ℕ) (wire : Wire) → IsPartOver wire p (take n (head_line p.settings))
-head_over p n wire =
+head_over : (p : Program) → peers_in p.settings ≡ false → (n : ℕ) (wire : Wire) → IsPartOver wire p (take n (head_line p.settings))
+head_over p none n wire =
     let front = take_prefix n (head_line p.settings) in record {
+      without = none;
       later = p.actions;
       before = [];
       run = [];
@@ -164,18 +169,19 @@ head_over p n wire =
       part = (front.0, front.1 ∙ sym (append-nil (head_line p.settings)));
     }
 
-pub part_of_head : HasWire → RunsOnce → (p : Program) (n : ℕ) → IsPart p (take n (head_line p.settings))
-part_of_head has once p n = is_part has once p (take n (head_line p.settings)) (λ wire house. head_over p n wire)
+pub part_of_head : HasWire → RunsOnce → (p : Program) → peers_in p.settings ≡ false → (n : ℕ) → IsPart p (take n (head_line p.settings))
+part_of_head has once p none n = is_part has once p (take n (head_line p.settings)) (λ wire house. head_over p none n wire)
 
 -- or nothing
-pub part_of_none : (p : Program) → IsPart p []
-part_of_none p = record { of_actions = λ wire house. head_over p 0 wire; of_trace = λ text is. (text, refl) }
+pub part_of_none : (p : Program) → peers_in p.settings ≡ false → IsPart p []
+part_of_none p none = record { of_actions = λ wire house. head_over p none 0 wire; of_trace = λ text is. (text, refl) }
 
 -- later it is what was told after the head
-pub part_of_told : HasWire → RunsOnce → (p : Program) (pair : Pair) (bytes : List ℕ) → IsBegun kinds.Trace p pair → IsToldPart pair p bytes → IsPart p (head_line p.settings ++ bytes)
-part_of_told has once p pair bytes begun part = is_part has once p (head_line p.settings ++ bytes) (λ wire house.
+pub part_of_told : HasWire → RunsOnce → (p : Program) → peers_in p.settings ≡ false → (pair : Pair) (bytes : List ℕ) → IsBegun kinds.Trace p pair → IsToldPart pair p bytes → IsPart p (head_line p.settings ++ bytes)
+part_of_told has once p none pair bytes begun part = is_part has once p (head_line p.settings ++ bytes) (λ wire house.
     let t = terms_in p.settings in
     let told = part.told kinds.Trace (limits_in p.settings) wire t (begun wire house) in record {
+      without = none;
       later = part.later;
       before = part.before;
       run = told.0;
@@ -187,10 +193,10 @@ part_of_told has once p pair bytes begun part = is_part has once p (head_line p.
 -- ---- all of it
 
 -- all that two ends told of a script's actions, after the head
-pub is_trace : (p : Program) (old new : Pair) (bytes : List ℕ) → IsBegun kinds.Trace p old → ActsAll old p.actions bytes new → new.told.items ≡ []
+pub is_trace : (p : Program) → peers_in p.settings ≡ false → (old new : Pair) (bytes : List ℕ) → IsBegun kinds.Trace p old → ActsAll old p.actions bytes new → new.told.items ≡ []
     → ((wire : Wire) (r : Run) → IsHouseWire (limits_in p.settings).frame wire → Follows kinds.Trace bytes (limits_in p.settings) wire (terms_in p.settings) p.actions r new
     → IsReportOver wire p (report_text (terms_in p.settings) r)) → IsTrace p (head_line p.settings ++ bytes)
-is_trace p old new bytes begun acts empty reports wire house =
+is_trace p none old new bytes begun acts empty reports wire house =
     let t = terms_in p.settings in
     let run = acts kinds.Trace (limits_in p.settings) wire t (begun wire house) in
     let over = reports wire run.0 house run.1 in
@@ -198,6 +204,7 @@ is_trace p old new bytes begun acts empty reports wire house =
     let told : bytes ≡ lines_in wire p.settings run.0 =
     sym (append-nil bytes) ∙ ap (λ x. bytes ++ x) (sym empty) ∙ run.1.told ∙ told_is_lines wire p.settings run.0 in
     record {
+      without = none;
       report = report_text t run.0;
       reported = over;
       text_is = ap (λ x. head_line p.settings ++ x) (told ∙ ap (lines_in wire p.settings) same);

@@ -44,7 +44,7 @@ ReportsOnce = (p : Program) (x y : List ℕ) → IsReport p x → IsReport p y �
 abbrev pub TracesOnce : Type 0
 TracesOnce = (p : Program) (x y : List ℕ) → IsTrace p x → IsTrace p y → x ≡ y
 
--- its lines tell a world
+-- its lines tell the world of the script's run, and no other
 abbrev pub TracesTell : Type 0
 TracesTell = (script : List ℕ) (p : Program) (text : List ℕ) → Parses script p → IsTrace p text
     → (wire : Wire) → IsHouseWire (limits_in p.settings).frame wire → IsTold wire p text

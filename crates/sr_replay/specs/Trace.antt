@@ -3,6 +3,7 @@ use Rattle.std.specs.Prelude.{◌≡◌, ℕ, Bool, true, false, List, [], ◌�
 use Rattle.std.specs.Fmt.{decimal}
 use Rattle.hex.specs.Hex.{encode_lower}
 use Rattle.hd_facts.specs.Prefixes.{IsPrefix}
+use Rattle.hd_facts.specs.Unique.{IsTheOne}
 use Rattle.hm_message.specs.declared.message.Codec.{Codec}
 use Rattle.hm_message.specs.declared.message.Codec.TheVariants.{Json, Pack}
 use Rattle.hm_json.specs.Frame.{frame_of}
@@ -16,7 +17,7 @@ use Rattle.hd_trace.specs.Recording.{lines_of}
 use Rattle.he_wire.specs.Wires.{IsHouseWire}
 use Rattle.sr_notation.specs.declared.setting.Setting.{Setting}
 use Rattle.sr_notation.specs.Settings.{buffer_words}
-use Rattle.sr_notation.specs.Terms.{codec_in, version_in, reconnect_in, limits_in, terms_in}
+use Rattle.sr_notation.specs.Terms.{codec_in, version_in, reconnect_in, limits_in, peers_in, terms_in}
 use Rattle.sr_notation.specs.Words.{line, line_at, got_words}
 use Rattle.sr_script.specs.declared.action.Action.{Action}
 use Rattle.sr_script.specs.Script.{Program}
@@ -77,8 +78,9 @@ setup_in wire settings = record { limits = limits_in settings; terms = terms_in 
 abbrev pub trace_text : Wire → List Setting → List (Event ByteStep) → List ℕ
 trace_text wire settings w = head_line settings ++ lines_text (lines_of (setup_in wire settings) w)
 
--- The text is the trace of the run that is reported of the program. So its steps are a world of two ends, in which delivery holds.
+-- The text is the trace of the run that is reported of the program, which is one without peers. So its steps are a world of two ends, in which delivery holds.
 pub record IsTraceOver (wire : Wire) (p : Program) (text : List ℕ) : Type 0 where
+  pub without : peers_in p.settings ≡ false
   pub report : List ℕ
   pub reported : IsReportOver wire p report
   pub text_is : text ≡ trace_text wire p.settings (world_of reported.run)
@@ -87,17 +89,19 @@ pub record IsTraceOver (wire : Wire) (p : Program) (text : List ℕ) : Type 0 wh
 abbrev pub IsTrace : Program → List ℕ → Type 0
 IsTrace p text = (wire : Wire) → IsHouseWire (limits_in p.settings).frame wire → IsTraceOver wire p text
 
--- the text, after the head, is that of lines that tell a world
+-- the text, after the head, is that of lines that tell the world of the one run that the program's actions make, and no other world
 pub record IsTold (wire : Wire) (p : Program) (text : List ℕ) : Type 0 where
+  pub run : Run
+  pub runs : IsTheOne (Runs (limits_in p.settings) wire (terms_in p.settings) p.actions) run
   pub lines : List TraceLine
-  pub world : List (Event ByteStep)
-  pub tell : TellWorld (setup_in wire p.settings) lines world
+  pub tell : IsTheOne (TellWorld (setup_in wire p.settings) lines) (world_of run)
   pub text_is : text ≡ head_line p.settings ++ lines_text lines
 
 -- ---- a first part of it
 
--- the bytes are a first part of the trace of what the program's first actions make of the two ends
+-- the bytes are a first part of the trace of what the first actions of a program without peers make of the two ends
 pub record IsPartOver (wire : Wire) (p : Program) (bytes : List ℕ) : Type 0 where
+  pub without : peers_in p.settings ≡ false
   pub later : List Action
   pub before : List Action
   pub run : Run

@@ -5,7 +5,7 @@ ghost use Rattle.sr_replay.specs.Laws.{EndsReport, ReportsHaveLines, ReportsOnce
 use hd_delivery::{
     fed_is_lent, frames_are_taken, unread_grows, unread_is_bounded, worlds_are_histories,
 };
-use hd_trace::records_tell;
+use hd_trace::{lines_tell_one_world, records_tell};
 use he_end::{End, ends_deliver};
 use he_wire::{has_wire, wire_is_sound};
 use sr_script::{scripts_are_in_turn, scripts_are_settled};
@@ -40,11 +40,12 @@ pub fn traces_once()
     has_wire();
 }
 
-/// The lines of a script's trace tell a world of two ends, so whoever judges them by what ends can do finds none that breaks off.
+/// The lines of a script's trace tell the world of its run and no other, so whoever judges them by what ends can do finds none that breaks off.
 pub fn traces_tell()
     ensures { TracesTell }
 {
     frames_are_taken();
+    lines_tell_one_world();
     records_tell();
     scripts_are_in_turn();
 }

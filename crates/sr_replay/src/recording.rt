@@ -1,7 +1,7 @@
 //! A script, recorded: two real ends do its actions, and the trace of that is put in pieces as it is made, since it can be far longer than the
 //! script.
 
-ghost use Rattle.std.specs.Prelude.{◌≡◌, ◌≢◌, ◌++◌, ℕ, true, false, List, [], IfOk, OnOk, OnErr, Err, string_bytes, take};
+ghost use Rattle.std.specs.Prelude.{◌≡◌, ◌≢◌, ◌⊎◌, ◌++◌, ℕ, true, false, List, [], IfOk, OnOk, OnErr, Err, string_bytes, take};
 ghost use Rattle.std.specs.Io.KnownBytes.{Appends};
 ghost use Rattle.hd_facts.specs.Counts.{CountsFailure, one_more};
 ghost use Rattle.hd_facts.specs.Unique.{IsTheOne};
@@ -196,14 +196,16 @@ fn record_ends<K: Sink>(alloc: Global, script: &Script, out: &mut K) -> Result<(
 }
 
 /// Records a script: two ends do its actions, and a line is put for each step that either makes, after one that says how they are begun. It is
-/// put in pieces of some 64 KiB, so after an error a first part of it may have been written. A script of peers isn't recorded. Nothing is asked of
+/// put in pieces of some 64 KiB, so after an error a first part of it may have been written. A script of peers isn't recorded, not in part. Nothing is asked of
 /// the output before there is a byte to put, nor after it failed.
 pub fn record<K: Sink>(alloc: Global, script: &Script, out: &mut K) -> Result<(), RecordError>
     ensures ok { OnOk result ((p : Program) → Parses script.now p → (peers_in p.settings ≡ false) × ((text : List ℕ) × (IsTheOne (IsTrace p) text
         × Appends (K.holds out.old) (K.holds out.new) text))) }
-    ensures part { OnErr result ((p : Program) → Parses script.now p → (bytes : List ℕ) × (IsPart p bytes
+    ensures part { OnErr result ((p : Program) → Parses script.now p → peers_in p.settings ≡ false → (bytes : List ℕ) × (IsPart p bytes
         × Appends (K.holds out.old) (K.holds out.new) bytes)) }
     ensures peers { result ≡ Err RecordError.Peers → (out.new ≡ out.old) × ((p : Program) → Parses script.now p → peers_in p.settings ≡ true) }
+    ensures peers_untouched { (p : Program) → Parses script.now p → peers_in p.settings ≡ true →
+        (out.new ≡ out.old) × ((result ≡ Err RecordError.Peers) ⊎ (result ≡ Err RecordError.NoMemory)) }
     ensures write { result ≡ Err RecordError.Write → K.faults out.new ≡ one_more (K.faults out.old) }
     ensures unfailed { result ≢ Err RecordError.Write → K.faults out.new ≡ K.faults out.old }
     ensures touched { result ≢ Err RecordError.Write → IsTouchedByBytesAlone K.holds out.old out.new }

@@ -25,5 +25,5 @@ returns-in-Err-Write-clause-answered g c =
     let asks = c.in-Ok.ensures.ok in
     let p = asks.1.0 in
     let part = c.record.ensures.part in
-    let wrote = c.in-Err-Write.ensures.part p (subst (λ x. Parses x p) (sym asks.0) asks.1.1.0.holds) in
+    let wrote = c.in-Err-Write.ensures.part p (subst (λ x. Parses x p) (sym asks.0) asks.1.1.0.holds) asks.1.1.1 in
     recorded_part c.args.text.now wrote.0 _ _ _ _ (record { asks = p; script = asks.1.1; front_is = wrote.1.0 }) (c.record.ensures.write (cc)) wrote.1.1

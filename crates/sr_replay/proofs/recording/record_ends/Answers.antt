@@ -10,13 +10,13 @@ use Rattle.sr_replay.proofs.recording.record_ends.Goals as goal
 pub returns-in_err-head-clause-part : goal.returns-in_err-head-clause-part
 returns-in_err-head-clause-part g c =
     let before = g.K.Sink.holds c.args.out.now in
-    let part : PutsPartOf c.args.script.now before before = λ p parses. ([], (part_of_none p, Appends-nil before)) in
+    let part : PutsPartOf c.args.script.now before before = λ p parses. ([], (part_of_none p (c.requires p parses), Appends-nil before)) in
     on_err _ part
 
 pub returns-in_err-pair-clause-part : goal.returns-in_err-pair-clause-part
 returns-in_err-pair-clause-part g c =
     let before = g.K.Sink.holds c.args.out.now in
-    let part : PutsPartOf c.args.script.now before before = λ p parses. ([], (part_of_none p, Appends-nil before)) in
+    let part : PutsPartOf c.args.script.now before before = λ p parses. ([], (part_of_none p (c.requires p parses), Appends-nil before)) in
     on_err _ part
 
 pub returns-in_err-put-clause-part : goal.returns-in_err-put-clause-part
@@ -26,7 +26,7 @@ returns-in_err-put-clause-part g c =
     let head_is = c.as_bytes.ensures.value ∙ c.in_ok-head.ensures p parses in (
       take put.0 (head_line p.settings),
       (
-        part_of_head c.has_wire.ensures c.runs_once.ensures p put.0,
+        part_of_head c.has_wire.ensures c.runs_once.ensures p (c.requires p parses) put.0,
         subst (λ x. Appends (g.K.Sink.holds c.args.out.now) (g.K.Sink.holds c.put.new.self) (take put.0 x)) head_is put.1,
       ),
     ) in
@@ -42,7 +42,7 @@ returns-in_err-act_and_put-clause-part g c =
     let head_is = c.as_bytes.ensures.value ∙ c.in_ok-head.ensures p parses in (
       head_line p.settings ++ told.0,
       (
-        part_of_told c.has_wire.ensures c.runs_once.ensures p c.in_ok-pair.pair told.0 (c.in_ok-pair.ensures p parses) told.1.1,
+        part_of_told c.has_wire.ensures c.runs_once.ensures p (c.requires p parses) c.in_ok-pair.pair told.0 (c.in_ok-pair.ensures p parses) told.1.1,
         Appends-trans before now later (head_line p.settings) told.0 (subst (Appends before now) head_is c.in_ok-put.ensures.bytes) told.1.0,
       ),
     ) in
@@ -55,7 +55,7 @@ returns-clause-ok g c = λ p parses.
     let before = g.K.Sink.holds c.args.out.now in
     let now = g.K.Sink.holds c.put.new.self in
     let text = head_line p.settings ++ all.0 in
-    let trace = is_trace p c.in_ok-pair.pair c.act_and_put.new.pair all.0 (c.in_ok-pair.ensures p parses) all.1.1 all.1.2
+    let trace = is_trace p (c.requires p parses) c.in_ok-pair.pair c.act_and_put.new.pair all.0 (c.in_ok-pair.ensures p parses) all.1.1 all.1.2
     (λ wire r house follows. c.reports.ensures kinds.Trace all.0 wire c.args.script.now p r house parses follows) in (
       text,
       (
