@@ -96,7 +96,7 @@ module _ (follow : MarksFollow) (x : Setup) (side : Side) (end : AuditedEnd) (h 
     }
 
 -- what is due, in the bytes of the wire
-spelled_by : (spell : LinkFrame → List ℕ) (codec : Codec) (o : Option LinkFrame) (bytes : List ℕ) → ((f : LinkFrame) → spell f ≡ spelling codec f)
+pub spelled_by : (spell : LinkFrame → List ℕ) (codec : Codec) (o : Option LinkFrame) (bytes : List ℕ) → ((f : LinkFrame) → spell f ≡ spelling codec f)
     → option_map spell o ≡ Some bytes → option_map (spelling codec) o ≡ Some bytes
 spelled_by spell codec None bytes same e = absurd (let z : None ≡ Some bytes = e in cc)
 spelled_by spell codec (Some f) bytes same e = ap Some (sym (same f)) ∙ e

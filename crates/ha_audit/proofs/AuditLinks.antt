@@ -32,13 +32,13 @@ use Rattle.ha_audit.proofs.AuditPlain.{StaysBeside}
 abbrev pub may_begin : Marks → Bool
 may_begin m = not m.closed && (not (is_some m.first) || m.resumable)
 
-begins : (closed resumable : Bool) (first : Option ℕ) → (not closed && (not (is_some first) || resumable)) ≡ true → (closed ≡ false) × ((first ≡ None) ⊎ (resumable ≡ true))
+pub begins : (closed resumable : Bool) (first : Option ℕ) → (not closed && (not (is_some first) || resumable)) ≡ true → (closed ≡ false) × ((first ≡ None) ⊎ (resumable ≡ true))
 begins true resumable first e = absurd (cc)
 begins false resumable None e = (refl, inl refl)
 begins false true (Some l) e = (refl, inr refl)
 begins false false (Some l) e = absurd (cc)
 
-began : (closed resumable : Bool) (first : Option ℕ) → closed ≡ false → (first ≡ None) ⊎ (resumable ≡ true) → (not closed && (not (is_some first) || resumable)) ≡ true
+pub began : (closed resumable : Bool) (first : Option ℕ) → closed ≡ false → (first ≡ None) ⊎ (resumable ≡ true) → (not closed && (not (is_some first) || resumable)) ≡ true
 began true resumable first c g = absurd (cc)
 began false resumable None c g = refl
 began false true (Some l) c g = refl

@@ -22,3 +22,13 @@ pub mod AuditSent
 pub mod AuditTaking
 pub mod AuditStanding
 pub mod AuditPassing
+pub mod AloneKept
+pub mod AlonePlain
+pub mod AloneLinks
+pub mod AloneBytes
+pub mod AloneMessages
+pub mod AloneFrames
+pub mod AloneVerdicts
+pub mod AloneReading
+pub mod AloneTaking
+pub mod AloneTaken

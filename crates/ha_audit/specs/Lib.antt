@@ -8,3 +8,7 @@ pub mod AuditSteps
 pub mod AuditLaws
 pub mod AuditStill
 pub mod AuditVerdict
+pub mod AloneState
+pub mod AloneKeeps
+pub mod AloneSteps
+pub mod AloneVerdict

@@ -9,7 +9,7 @@ ghost use Rattle.ha_audit.specs.AuditKeeps.{IsBegunSo, Judges, Keeps};
 ghost use Rattle.ha_audit.specs.Grammar.{HasLine, HasText};
 
 mod attaching;
-mod audited_end;
+pub(crate) mod audited_end;
 mod feeding;
 mod laws;
 mod lending;

@@ -27,6 +27,7 @@
 //! The crate doesn't know files, nor the code of an end: what it judges by are the definitions alone.
 #![tactic(auto)]
 
+mod alone;
 mod audit;
 mod error;
 mod head;
@@ -37,6 +38,7 @@ mod trace;
 mod verdict;
 mod worked;
 
+pub use alone::audit_alone;
 pub use audit::Audit;
 pub use error::TraceError;
 pub use head::Head;

@@ -66,7 +66,7 @@ impl Audit {
 
 impl AuditedEnd {
     /// Whether it can begin a link.
-    fn may_begin(&self) -> bool
+    pub(crate) fn may_begin(&self) -> bool
         ensures { result ≡ (not self.now.marks.closed && (not (is_some self.now.marks.first) || self.now.marks.resumable)) }
     {
         if self.marks.closed {
@@ -76,7 +76,7 @@ impl AuditedEnd {
     }
 
     /// Whether the name is above that of the link which it began last.
-    fn is_past_last(&self, link: u64) -> bool
+    pub(crate) fn is_past_last(&self, link: u64) -> bool
         ensures { IsTrue result ↔ IsAbove self.now.last link }
     {
         match self.last {
@@ -86,7 +86,12 @@ impl AuditedEnd {
     }
 
     /// It stands on the new link.
-    fn attach(&mut self, alloc: Global, link: u64, now: u64) -> Result<(), AllocError>
+    pub(crate) fn attach(
+        &mut self,
+        alloc: Global,
+        link: u64,
+        now: u64,
+    ) -> Result<(), AllocError>
         ensures { OnOk result (Attaches self.old self.new link now) }
     {
         self.open(alloc, link)?;
