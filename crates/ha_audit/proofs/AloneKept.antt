@@ -16,8 +16,8 @@ use Rattle.hd_trace.specs.declared.marks.Marks.{Marks}
 use Rattle.hd_trace.specs.Traces.{Setup}
 use Rattle.hd_trace.specs.Marks.{marks_of, attached, left, heard_something, lent, ticked, sent_one, closed_for}
 use Rattle.hd_trace.specs.MarkLaws.{MarksFollow}
-use Rattle.ha_audit.specs.declared.audit.audited_end.AuditedEnd.{AuditedEnd}
-use Rattle.ha_audit.specs.declared.audit.said.SaidOnLink.{SaidOnLink}
+use Rattle.ha_audit.specs.declared.auditor.audited_end.AuditedEnd.{AuditedEnd}
+use Rattle.ha_audit.specs.declared.auditor.said.SaidOnLink.{SaidOnLink}
 use Rattle.ha_audit.specs.AuditState.{AreSent, said_on, has_link, framed_size, sum_of_first}
 use Rattle.ha_audit.specs.AuditSteps.{Opens, Attaches, SendsOne, Says, Adds}
 use Rattle.ha_audit.specs.AloneState.{as_kept, framing_by, HoldsBytes}

@@ -21,7 +21,7 @@ use Rattle.hd_trace.specs.Marks.{marks_of}
 use Rattle.hd_trace.specs.MarkLaws.{MarksFollow}
 use Rattle.hd_trace.specs.ByNumbers.{RoomByNumbers, released}
 use Rattle.ha_audit.specs.declared.alone.auditor.AuditAlone.{AuditAlone}
-use Rattle.ha_audit.specs.declared.audit.audited_end.AuditedEnd.{AuditedEnd}
+use Rattle.ha_audit.specs.declared.auditor.audited_end.AuditedEnd.{AuditedEnd}
 use Rattle.ha_audit.specs.Grammar.{HasText}
 use Rattle.ha_audit.specs.AuditState.{framed_size, sum_of_first}
 use Rattle.ha_audit.specs.AuditSteps.{HasRoomFor, SendsSo, CanSend, released_by}

@@ -32,8 +32,8 @@ use Rattle.hd_trace.specs.MarkLaws.{MarksFollow, TakesAreMarked}
 use Rattle.hd_trace.specs.ByMarks.{next_number_by, given_by}
 use Rattle.ha_audit.specs.declared.alone.auditor.AuditAlone.{AuditAlone}
 use Rattle.ha_audit.specs.declared.alone.taking.Taken.{Taken}
-use Rattle.ha_audit.specs.declared.audit.audited_end.AuditedEnd.{AuditedEnd}
-use Rattle.ha_audit.specs.declared.audit.sent.SentMessage.{SentMessage}
+use Rattle.ha_audit.specs.declared.auditor.audited_end.AuditedEnd.{AuditedEnd}
+use Rattle.ha_audit.specs.declared.auditor.sent.SentMessage.{SentMessage}
 use Rattle.ha_audit.specs.AuditState.{AreSent, has_link, messages_of}
 use Rattle.ha_audit.specs.AloneState.{as_kept, framing_by, reading_by, HoldsBytes}
 use Rattle.ha_audit.specs.AloneKeeps.{KeepsOne, KeepsAlone, KnownAlone, KeptAloneIsKnown, JudgesAlone}

@@ -10,7 +10,7 @@ use Rattle.hd_trace.specs.declared.trace.TraceLine.{TraceLine}
 use Rattle.hd_trace.specs.Traces.{Setup, frames_beside}
 use Rattle.hd_trace.specs.Marks.{marks_of}
 use Rattle.hd_delivery.specs.Histories.{sent_messages, lent_frames}
-use Rattle.ha_audit.specs.declared.audit.Audit.{Audit}
+use Rattle.ha_audit.specs.declared.auditor.Audit.{Audit}
 use Rattle.ha_audit.specs.AuditState.{said_on, frames_of, frame_said}
 use Rattle.ha_audit.specs.AuditKeeps.{Keeps, end_of}
 use Rattle.ha_audit.specs.AuditSteps.{IsBegunLike, HasFrames}

@@ -17,8 +17,8 @@ use Rattle.hd_trace.specs.Traces.{Setup, clock, steps_of, frames_beside, MayBesi
 use Rattle.hd_trace.specs.Recording.{line_of}
 use Rattle.hd_trace.specs.MarkLaws.{MarksFollow}
 use Rattle.hd_trace.specs.ByNumbers.{FeedsByNumbers, IsNextThere, IsOpenOn, UnreadByNumbers, read_there, said_there, TakenAreLent}
-use Rattle.ha_audit.specs.declared.audit.Audit.{Audit}
-use Rattle.ha_audit.specs.declared.audit.audited_end.AuditedEnd.{AuditedEnd}
+use Rattle.ha_audit.specs.declared.auditor.Audit.{Audit}
+use Rattle.ha_audit.specs.declared.auditor.audited_end.AuditedEnd.{AuditedEnd}
 use Rattle.ha_audit.specs.AuditState.{said_on, bytes_of, frames_of, size_of_first, frames_size}
 use Rattle.ha_audit.specs.AuditKeeps.{KeepsEnd, Keeps, end_of, IsJudged, Judges}
 use Rattle.ha_audit.specs.AuditSteps.{FeedsSo, IsNextOf, IsOpenAt}

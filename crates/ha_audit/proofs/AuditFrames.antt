@@ -23,10 +23,10 @@ use Rattle.hd_trace.specs.Recording.{line_of}
 use Rattle.hd_trace.specs.Marks.{marks_of, lent}
 use Rattle.hd_trace.specs.MarkLaws.{MarksFollow, DueIsMarked}
 use Rattle.hd_trace.specs.ByMarks.{due_by}
-use Rattle.ha_audit.specs.declared.audit.Audit.{Audit}
-use Rattle.ha_audit.specs.declared.audit.audited_end.AuditedEnd.{AuditedEnd}
-use Rattle.ha_audit.specs.declared.audit.said.SaidFrame.{SaidFrame}
-use Rattle.ha_audit.specs.declared.audit.said.SaidOnLink.{SaidOnLink}
+use Rattle.ha_audit.specs.declared.auditor.Audit.{Audit}
+use Rattle.ha_audit.specs.declared.auditor.audited_end.AuditedEnd.{AuditedEnd}
+use Rattle.ha_audit.specs.declared.auditor.said.SaidFrame.{SaidFrame}
+use Rattle.ha_audit.specs.declared.auditor.said.SaidOnLink.{SaidOnLink}
 use Rattle.ha_audit.specs.AuditState.{AreSent, messages_of, said_on, has_link, bytes_of, frames_of, frame_said, IsSaidOn}
 use Rattle.ha_audit.specs.AuditKeeps.{KeepsEnd, Keeps, end_of, IsJudged, Judges}
 use Rattle.ha_audit.specs.AuditSteps.{LendsSo, Says, Adds}

@@ -19,8 +19,8 @@ use Rattle.hd_trace.specs.declared.marks.Marks.{Marks}
 use Rattle.hd_trace.specs.Traces.{Setup}
 use Rattle.hd_trace.specs.Marks.{marks_of, attached, left, heard_something, lent, ticked, sent_one, closed_for, took}
 use Rattle.hd_trace.specs.MarkLaws.{MarksFollow}
-use Rattle.ha_audit.specs.declared.audit.audited_end.AuditedEnd.{AuditedEnd}
-use Rattle.ha_audit.specs.declared.audit.said.SaidOnLink.{SaidOnLink}
+use Rattle.ha_audit.specs.declared.auditor.audited_end.AuditedEnd.{AuditedEnd}
+use Rattle.ha_audit.specs.declared.auditor.said.SaidOnLink.{SaidOnLink}
 use Rattle.ha_audit.specs.AuditState.{AreSent, said_on, has_link, bytes_of, frames_of, IsSaidOn, framed_size, sum_of_first}
 use Rattle.ha_audit.specs.AuditKeeps.{IsRead, KeepsFrames, KeepsEnd}
 use Rattle.ha_audit.specs.AuditSteps.{Opens, Attaches, SendsOne, Says, Adds}

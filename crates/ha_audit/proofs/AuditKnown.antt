@@ -20,7 +20,7 @@ use Rattle.hd_trace.specs.declared.trace.TraceLine.{TraceLine}
 use Rattle.hd_trace.specs.Traces.{Setup, clock, clock_after, steps_of, frames_beside, MakesAt, TellWorld}
 use Rattle.hd_trace.specs.Laws.{ToldIsWorld, IsToldWorld}
 use Rattle.hd_trace.specs.ByNumbers.{IsFaithfulWorld}
-use Rattle.ha_audit.specs.declared.audit.Audit.{Audit}
+use Rattle.ha_audit.specs.declared.auditor.Audit.{Audit}
 use Rattle.ha_audit.specs.AuditKeeps.{IsBegunSo, KeepsEnd, Keeps, end_of}
 use Rattle.ha_audit.specs.AuditLaws.{Known}
 

@@ -19,7 +19,7 @@ use Rattle.hd_trace.specs.Marks.{marks_of}
 use Rattle.hd_trace.specs.MarkLaws.{MarksFollow}
 use Rattle.hd_trace.specs.ByMarks.{MayBeginBy}
 use Rattle.hd_trace.specs.ByNumbers.{IsAbove, IsNewBeside, AttachesByNumbers}
-use Rattle.ha_audit.specs.declared.audit.Audit.{Audit}
+use Rattle.ha_audit.specs.declared.auditor.Audit.{Audit}
 use Rattle.ha_audit.specs.AuditState.{has_link}
 use Rattle.ha_audit.specs.AuditKeeps.{KeepsEnd, Keeps, end_of, IsJudged, Judges}
 use Rattle.ha_audit.specs.AuditSteps.{Attaches}

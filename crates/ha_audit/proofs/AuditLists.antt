@@ -16,9 +16,9 @@ use Rattle.he_wire.specs.Wires.{AreSaid}
 use Rattle.hd_trace.specs.declared.owed.Owed.{Owed}
 use Rattle.hd_trace.specs.declared.owed.Owed.TheVariants as owed
 use Rattle.hd_trace.specs.Owed.{owed_frame}
-use Rattle.ha_audit.specs.declared.audit.said.SaidFrame.{SaidFrame}
-use Rattle.ha_audit.specs.declared.audit.said.SaidOnLink.{SaidOnLink}
-use Rattle.ha_audit.specs.declared.audit.sent.SentMessage.{SentMessage}
+use Rattle.ha_audit.specs.declared.auditor.said.SaidFrame.{SaidFrame}
+use Rattle.ha_audit.specs.declared.auditor.said.SaidOnLink.{SaidOnLink}
+use Rattle.ha_audit.specs.declared.auditor.sent.SentMessage.{SentMessage}
 use Rattle.ha_audit.specs.AuditState.{messages_of, framed_size, AreSent, sum_in, sum_of_first, bytes_of, frames_of, frame_said, frames_size, IsSaidOn, end_in, size_of_first}
 
 -- ---- places

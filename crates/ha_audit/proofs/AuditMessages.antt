@@ -22,8 +22,8 @@ use Rattle.hd_trace.specs.Recording.{line_of}
 use Rattle.hd_trace.specs.Marks.{marks_of}
 use Rattle.hd_trace.specs.MarkLaws.{MarksFollow}
 use Rattle.hd_trace.specs.ByNumbers.{RoomByNumbers, released}
-use Rattle.ha_audit.specs.declared.audit.Audit.{Audit}
-use Rattle.ha_audit.specs.declared.audit.audited_end.AuditedEnd.{AuditedEnd}
+use Rattle.ha_audit.specs.declared.auditor.Audit.{Audit}
+use Rattle.ha_audit.specs.declared.auditor.audited_end.AuditedEnd.{AuditedEnd}
 use Rattle.ha_audit.specs.Grammar.{HasText}
 use Rattle.ha_audit.specs.AuditState.{framed_size, sum_of_first}
 use Rattle.ha_audit.specs.AuditKeeps.{KeepsEnd, Keeps, end_of, IsJudged, Judges}

@@ -7,7 +7,7 @@ use Rattle.std.specs.Ordering.{nat_cmp, is_eq, MatchOrdering}
 use Rattle.std.specs.BTreeMap.{BTreeMap, Updates, WritesThrough}
 use Rattle.std.proofs.lemmas.Bool.{eq-eqb, ne_eqb}
 use Rattle.std.proofs.lemmas.Cmp.{ranked}
-use Rattle.ha_audit.specs.declared.audit.said.SaidOnLink.{SaidOnLink}
+use Rattle.ha_audit.specs.declared.auditor.said.SaidOnLink.{SaidOnLink}
 use Rattle.ha_audit.specs.AuditState.{Links, said_on}
 
 -- a name compares equal to itself alone

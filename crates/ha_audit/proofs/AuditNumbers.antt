@@ -15,7 +15,7 @@ use Rattle.hd_trace.specs.declared.trace.TraceLine.{TraceLine}
 use Rattle.hd_trace.specs.Traces.{Setup, frames_beside}
 use Rattle.hd_trace.specs.Marks.{marks_of, lent_on, read_on}
 use Rattle.hd_trace.specs.Owed.{HasNextNumbers}
-use Rattle.ha_audit.specs.declared.audit.Audit.{Audit}
+use Rattle.ha_audit.specs.declared.auditor.Audit.{Audit}
 use Rattle.ha_audit.specs.AuditState.{said_on, frames_of}
 use Rattle.ha_audit.specs.AuditKeeps.{Keeps, end_of}
 use Rattle.ha_audit.specs.AuditLaws.{Known}

@@ -13,7 +13,7 @@ use Rattle.hd_trace.specs.declared.verdict.Verdict.{Verdict}
 use Rattle.hd_trace.specs.Traces.{Setup}
 use Rattle.hd_trace.specs.Breaking.{BreaksOff}
 use Rattle.hd_trace.specs.Verdicts.{IsVerdict, VerdictIsOne}
-use Rattle.ha_audit.specs.declared.audit.Audit.{Audit}
+use Rattle.ha_audit.specs.declared.auditor.Audit.{Audit}
 use Rattle.ha_audit.specs.declared.head.Head.{Head}
 use Rattle.ha_audit.specs.declared.verdict.Break.{Break}
 use Rattle.ha_audit.specs.Grammar.{IsHead}

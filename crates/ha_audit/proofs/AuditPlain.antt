@@ -19,8 +19,8 @@ use Rattle.hd_trace.specs.Laws.{ToldIsWorld}
 use Rattle.hd_trace.specs.Marks.{marks_of, left, ticked, closed_for}
 use Rattle.hd_trace.specs.MarkLaws.{MarksFollow, TakesAreMarked}
 use Rattle.hd_trace.specs.ByMarks.{is_silence_by}
-use Rattle.ha_audit.specs.declared.audit.Audit.{Audit}
-use Rattle.ha_audit.specs.declared.audit.audited_end.AuditedEnd.{AuditedEnd}
+use Rattle.ha_audit.specs.declared.auditor.Audit.{Audit}
+use Rattle.ha_audit.specs.declared.auditor.audited_end.AuditedEnd.{AuditedEnd}
 use Rattle.ha_audit.specs.AuditKeeps.{KeepsEnd, Keeps, end_of, IsJudged, Judges}
 use Rattle.ha_audit.proofs.AuditKept.{kept_detached, kept_silenced, kept_ticked, kept_closed}
 use Rattle.ha_audit.proofs.AuditKnown.{keeps_on}

@@ -15,8 +15,8 @@ use Rattle.hd_trace.specs.declared.owed.Owed.{Owed}
 use Rattle.hd_trace.specs.Marks.{lent}
 use Rattle.hd_trace.specs.ByMarks.{due_by, next_by}
 use Rattle.hd_trace.specs.Owed.{HasNextNumbers, IsOwed, owed_frame}
-use Rattle.ha_audit.specs.declared.audit.audited_end.AuditedEnd.{AuditedEnd}
-use Rattle.ha_audit.specs.declared.audit.said.SaidFrame.{SaidFrame}
+use Rattle.ha_audit.specs.declared.auditor.audited_end.AuditedEnd.{AuditedEnd}
+use Rattle.ha_audit.specs.declared.auditor.said.SaidFrame.{SaidFrame}
 use Rattle.ha_audit.specs.AuditState.{messages_of, said_on, has_link, bytes_of}
 use Rattle.ha_audit.specs.AuditSteps.{LendsSo, Says, Adds}
 

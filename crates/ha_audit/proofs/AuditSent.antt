@@ -3,7 +3,7 @@ use Rattle.std.proofs.Common.{◌≡◌, ◌↔◌, ℕ, Bool, IsTrue, List, len
 use Rattle.std.specs.Slice.{IsItemAt}
 use Rattle.std.proofs.lemmas.Option.{slice_get-map, slice_get_past, slice_get_read}
 use Rattle.hm_message.specs.declared.message.Message.{Message}
-use Rattle.ha_audit.specs.declared.audit.sent.SentMessage.{SentMessage}
+use Rattle.ha_audit.specs.declared.auditor.sent.SentMessage.{SentMessage}
 use Rattle.ha_audit.specs.AuditState.{messages_of}
 
 -- what a look at a place lends

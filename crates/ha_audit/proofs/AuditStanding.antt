@@ -15,7 +15,7 @@ use Rattle.hd_trace.specs.MarkLaws.{DueIsMarked, TakesAreMarked}
 use Rattle.hd_trace.specs.ByMarks.{due_by, state_by}
 use Rattle.hd_trace.specs.ByNumbers.{IsStillAt, StillByNumbers}
 use Rattle.hd_trace.specs.Verdicts.{counts_of}
-use Rattle.ha_audit.specs.declared.audit.Audit.{Audit}
+use Rattle.ha_audit.specs.declared.auditor.Audit.{Audit}
 use Rattle.ha_audit.specs.AuditState.{frames_of, messages_of, said_on}
 use Rattle.ha_audit.specs.AuditKeeps.{Keeps, end_of}
 use Rattle.ha_audit.specs.AuditLaws.{Known}

@@ -8,8 +8,8 @@ use Rattle.hd_delivery.specs.Worlds.{config, codec_at}
 use Rattle.hd_delivery.specs.Sides.{history}
 use Rattle.hd_trace.specs.Traces.{Setup}
 use Rattle.hd_trace.specs.Marks.{marks_of}
-use Rattle.ha_audit.specs.declared.audit.Audit.{Audit}
-use Rattle.ha_audit.specs.declared.audit.audited_end.AuditedEnd.{AuditedEnd}
+use Rattle.ha_audit.specs.declared.auditor.Audit.{Audit}
+use Rattle.ha_audit.specs.declared.auditor.audited_end.AuditedEnd.{AuditedEnd}
 use Rattle.ha_audit.specs.AuditState.{said_on, bytes_of, frames_of}
 use Rattle.ha_audit.specs.AuditKeeps.{IsBegunSo, KeepsEnd, Keeps, end_of}
 use Rattle.ha_audit.proofs.AuditLists.{sent_none, said_none}

@@ -28,9 +28,9 @@ use Rattle.hd_trace.specs.Given.{given_got}
 use Rattle.hd_trace.specs.Marks.{marks_of, took}
 use Rattle.hd_trace.specs.MarkLaws.{MarksFollow}
 use Rattle.hd_trace.specs.ByNumbers.{TakesByLines, NextIsFed, IsOpenOn, frame_there, next_there, taken_by}
-use Rattle.ha_audit.specs.declared.audit.Audit.{Audit}
-use Rattle.ha_audit.specs.declared.audit.audited_end.AuditedEnd.{AuditedEnd}
-use Rattle.ha_audit.specs.declared.audit.said.SaidFrame.{SaidFrame}
+use Rattle.ha_audit.specs.declared.auditor.Audit.{Audit}
+use Rattle.ha_audit.specs.declared.auditor.audited_end.AuditedEnd.{AuditedEnd}
+use Rattle.ha_audit.specs.declared.auditor.said.SaidFrame.{SaidFrame}
 use Rattle.ha_audit.specs.AuditState.{messages_of, said_on, frames_of, frame_said, frames_size, whole_frame}
 use Rattle.ha_audit.specs.AuditKeeps.{IsBegunSo, KeepsEnd, Keeps, end_of, IsJudged, Judges}
 use Rattle.ha_audit.specs.AuditSteps.{TakesSo, IsTakenSo, IsOpenAt, IsGot, next_of}

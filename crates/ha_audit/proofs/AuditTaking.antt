@@ -18,8 +18,8 @@ use Rattle.hd_trace.specs.Given.{IsGiven, given_got, said_frame}
 use Rattle.hd_trace.specs.Marks.{took}
 use Rattle.hd_trace.specs.Owed.{owed_frame}
 use Rattle.hd_trace.specs.ByNumbers.{taken_by}
-use Rattle.ha_audit.specs.declared.audit.audited_end.AuditedEnd.{AuditedEnd}
-use Rattle.ha_audit.specs.declared.audit.said.SaidFrame.{SaidFrame}
+use Rattle.ha_audit.specs.declared.auditor.audited_end.AuditedEnd.{AuditedEnd}
+use Rattle.ha_audit.specs.declared.auditor.said.SaidFrame.{SaidFrame}
 use Rattle.ha_audit.specs.AuditState.{messages_of, frame_said}
 use Rattle.ha_audit.specs.AuditSteps.{IsOpenAt, IsTakenSo, TakesSo, next_of}
 

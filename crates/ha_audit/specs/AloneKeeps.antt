@@ -15,7 +15,7 @@ use Rattle.hd_trace.specs.Laws.{IsToldHistory}
 use Rattle.hd_trace.specs.Marks.{marks_of}
 use Rattle.hd_trace.specs.ByNumbers.{last_link}
 use Rattle.ha_audit.specs.declared.alone.auditor.AuditAlone.{AuditAlone}
-use Rattle.ha_audit.specs.declared.audit.audited_end.AuditedEnd.{AuditedEnd}
+use Rattle.ha_audit.specs.declared.auditor.audited_end.AuditedEnd.{AuditedEnd}
 use Rattle.ha_audit.specs.AuditState.{AreSent, has_link}
 use Rattle.ha_audit.specs.AuditKeeps.{IsBegunSo}
 use Rattle.ha_audit.specs.AloneState.{as_kept, HoldsBytes}

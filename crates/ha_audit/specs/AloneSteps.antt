@@ -19,7 +19,7 @@ use Rattle.hd_trace.specs.ByMarks.{next_number_by, given_by}
 use Rattle.hd_trace.specs.ByNumbers.{IsAbove}
 use Rattle.ha_audit.specs.declared.alone.auditor.AuditAlone.{AuditAlone}
 use Rattle.ha_audit.specs.declared.alone.taking.Taken.{Taken}
-use Rattle.ha_audit.specs.declared.audit.audited_end.AuditedEnd.{AuditedEnd}
+use Rattle.ha_audit.specs.declared.auditor.audited_end.AuditedEnd.{AuditedEnd}
 use Rattle.ha_audit.specs.declared.head.Head.{Head}
 use Rattle.ha_audit.specs.AuditState.{has_link}
 use Rattle.ha_audit.specs.AloneState.{framing_by, reading_by}

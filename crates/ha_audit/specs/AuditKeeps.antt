@@ -17,8 +17,8 @@ use Rattle.hd_trace.specs.Traces.{Setup, clock, steps_of, MakesAt, TellWorld}
 use Rattle.hd_trace.specs.Breaking.{BreaksWorld}
 use Rattle.hd_trace.specs.Marks.{marks_of}
 use Rattle.hd_trace.specs.ByNumbers.{last_link}
-use Rattle.ha_audit.specs.declared.audit.Audit.{Audit}
-use Rattle.ha_audit.specs.declared.audit.audited_end.AuditedEnd.{AuditedEnd}
+use Rattle.ha_audit.specs.declared.auditor.Audit.{Audit}
+use Rattle.ha_audit.specs.declared.auditor.audited_end.AuditedEnd.{AuditedEnd}
 use Rattle.ha_audit.specs.declared.head.Head.{Head}
 use Rattle.ha_audit.specs.AuditState.{AreSent, said_on, has_link, IsSaidOn}
 

@@ -8,7 +8,7 @@ use Rattle.hd_trace.specs.declared.trace.TraceLine.{TraceLine}
 use Rattle.hd_trace.specs.Traces.{Setup, clock, steps_of, frames_beside}
 use Rattle.hd_trace.specs.Laws.{IsToldWorld}
 use Rattle.hd_trace.specs.ByNumbers.{IsFaithfulWorld}
-use Rattle.ha_audit.specs.declared.audit.Audit.{Audit}
+use Rattle.ha_audit.specs.declared.auditor.Audit.{Audit}
 use Rattle.ha_audit.specs.AuditKeeps.{Keeps}
 
 -- a world that these lines tell, over readers that are sound, and faithful to what is sent in it

@@ -12,9 +12,9 @@ use Rattle.hd_delivery.specs.Histories.{Config}
 use Rattle.he_wire.specs.Wires.{AreSaid}
 use Rattle.hd_trace.specs.declared.owed.Owed.{Owed}
 use Rattle.hd_trace.specs.Owed.{owed_frame}
-use Rattle.ha_audit.specs.declared.audit.said.SaidFrame.{SaidFrame}
-use Rattle.ha_audit.specs.declared.audit.said.SaidOnLink.{SaidOnLink}
-use Rattle.ha_audit.specs.declared.audit.sent.SentMessage.{SentMessage}
+use Rattle.ha_audit.specs.declared.auditor.said.SaidFrame.{SaidFrame}
+use Rattle.ha_audit.specs.declared.auditor.said.SaidOnLink.{SaidOnLink}
+use Rattle.ha_audit.specs.declared.auditor.sent.SentMessage.{SentMessage}
 
 -- ---- what was sent
 

@@ -23,11 +23,11 @@ use Rattle.hd_trace.specs.ByMarks.{due_by}
 use Rattle.hd_trace.specs.declared.given.Given.{Given}
 use Rattle.hd_trace.specs.Given.{given_got}
 use Rattle.hd_trace.specs.ByNumbers.{taken_by}
-use Rattle.ha_audit.specs.declared.audit.Audit.{Audit}
-use Rattle.ha_audit.specs.declared.audit.audited_end.AuditedEnd.{AuditedEnd}
-use Rattle.ha_audit.specs.declared.audit.said.SaidFrame.{SaidFrame}
-use Rattle.ha_audit.specs.declared.audit.said.SaidOnLink.{SaidOnLink}
-use Rattle.ha_audit.specs.declared.audit.sent.SentMessage.{SentMessage}
+use Rattle.ha_audit.specs.declared.auditor.Audit.{Audit}
+use Rattle.ha_audit.specs.declared.auditor.audited_end.AuditedEnd.{AuditedEnd}
+use Rattle.ha_audit.specs.declared.auditor.said.SaidFrame.{SaidFrame}
+use Rattle.ha_audit.specs.declared.auditor.said.SaidOnLink.{SaidOnLink}
+use Rattle.ha_audit.specs.declared.auditor.sent.SentMessage.{SentMessage}
 use Rattle.ha_audit.specs.AuditState.{messages_of, framed_size, Links, said_on, has_link, bytes_of, frames_of, frame_said, whole_frame, size_of_first, sum_of_first}
 use Rattle.ha_audit.specs.AuditKeeps.{end_of}
 

@@ -3,7 +3,7 @@ use Rattle.std.specs.Prelude.{◌≡◌, ℕ, length, Some, None}
 use Rattle.hd_delivery.specs.declared.vocabulary.State.TheVariants.{Ready}
 use Rattle.hd_delivery.specs.Histories.{Config}
 use Rattle.hd_trace.specs.ByMarks.{due_by, state_by}
-use Rattle.ha_audit.specs.declared.audit.audited_end.AuditedEnd.{AuditedEnd}
+use Rattle.ha_audit.specs.declared.auditor.audited_end.AuditedEnd.{AuditedEnd}
 use Rattle.ha_audit.specs.AuditState.{bytes_of, frames_of, messages_of, said_on}
 
 -- on this link an end that was begun so is Ready, was fed as many bytes as the other end said there, took as many frames, and owes nothing

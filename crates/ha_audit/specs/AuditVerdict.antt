@@ -9,7 +9,7 @@ use Rattle.hd_trace.specs.declared.verdict.Verdict.{Verdict}
 use Rattle.hd_trace.specs.Traces.{Setup}
 use Rattle.hd_trace.specs.Breaking.{BreaksOff}
 use Rattle.hd_trace.specs.Verdicts.{IsVerdict}
-use Rattle.ha_audit.specs.declared.audit.Audit.{Audit}
+use Rattle.ha_audit.specs.declared.auditor.Audit.{Audit}
 use Rattle.ha_audit.specs.declared.head.Head.{Head}
 use Rattle.ha_audit.specs.declared.verdict.Break.{Break}
 use Rattle.ha_audit.specs.declared.verdict.Progress.{Progress}

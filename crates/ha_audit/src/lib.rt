@@ -10,7 +10,7 @@
 //!
 //! ```text
 //! let trace = parse(alloc, text)?;                       // or the number of the first line that no trace has
-//! match audit_trace(alloc, &trace)? {
+//! match audit(alloc, &trace)? {
 //!     Verdict::World { client, server, still } => ..     // it is what two ends can do: how many messages each sent and processed
 //!     Verdict::Breaks { line, rule } => ..               // the first line that can't come next, and why
 //! }
@@ -21,14 +21,14 @@
 //! What a line tells, and which lines are a session of two ends, is `hd_trace`'s.
 //!
 //! Proved: a text is the trace of one head and one list of lines, and then [`parse`] gives it and a [`Reader`] its lines in order; or it is refused
-//! at the first line with which no trace goes on. The definitions are `specs/Grammar.antt`: the grammar is its printer. [`audit_trace`] gives the one
+//! at the first line with which no trace goes on. The definitions are `specs/Grammar.antt`: the grammar is its printer. [`audit`] gives the one
 //! verdict that the lines have over the wire of this project (`specs/AuditVerdict.antt`).
 //!
 //! The crate doesn't know files, nor the code of an end: what it judges by are the definitions alone.
 #![tactic(auto)]
 
 mod alone;
-mod audit;
+mod auditor;
 mod error;
 mod head;
 mod laws;
@@ -39,11 +39,11 @@ mod verdict;
 mod worked;
 
 pub use alone::audit_alone;
-pub use audit::Audit;
+pub use auditor::Audit;
 pub use error::TraceError;
 pub use head::Head;
 pub use laws::{lines_are_lines, long_is_refused_by_its_front, traces_are_told_once};
 pub use reader::Reader;
 pub use trace::{MOST_TRACE, Trace, parse, parse_alone};
-pub use verdict::audit_trace;
+pub use verdict::audit;
 pub use worked::spelled;

@@ -7,7 +7,7 @@ ghost use Rattle.ha_audit.specs.declared.head.Head.{Head};
 ghost use Rattle.ha_audit.specs.AuditVerdict.{ComesTo, IsAudited, Stands};
 ghost use Rattle.ha_audit.specs.Grammar.{HasLine, IsHead};
 
-use crate::audit::Audit;
+use crate::auditor::Audit;
 use crate::head::Head;
 use crate::laws::traces_are_told_once;
 use crate::reader::Reader;
@@ -33,7 +33,7 @@ pub struct Progress {
 /// What the lines of a trace come to, as lines of two ends; it is the one such verdict. The lines of one end alone are judged beside another end
 /// that does nothing. It takes time in proportion to the trace, but for looking up a link by its name, and memory in proportion to what the lines
 /// say of messages and frames.
-pub fn audit_trace(alloc: Global, trace: &Trace) -> Result<Verdict, AllocError>
+pub fn audit(alloc: Global, trace: &Trace) -> Result<Verdict, AllocError>
     ensures { IfOk result (IsTheOne (IsAudited trace.now)) }
 {
     traces_are_told_once();

@@ -12,7 +12,7 @@ ghost use Rattle.ha_audit.specs.AloneKeeps.{JudgesAlone, KeepsAlone};
 ghost use Rattle.ha_audit.specs.Grammar.{HasLine, HasText};
 
 use super::laws::kept_alone_is_known;
-use crate::audit::audited_end::AuditedEnd;
+use crate::auditor::audited_end::AuditedEnd;
 use crate::head::Head;
 use hd_delivery::{Side, unread_stays};
 use hd_trace::{
