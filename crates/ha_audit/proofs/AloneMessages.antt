@@ -1,15 +1,14 @@
 -- Messages that an end alone is handed to send.
-use Rattle.std.proofs.Common.{inl, inr, ⊎_elim, ◌≡◌, ◌⊎◌, ◌↔◌, ◌≤◌, ◌<◌, ℕ, suc, ◌+◌, Bool, true, false, List, [], ◌∷◌, length, take, sum_by, Option, Some, None, refl, sym, ap, ◌∙◌, subst, arith}
+use Rattle.std.proofs.Common.{inl, inr, ⊎_elim, ◌≡◌, ◌≤◌, Bool, true, false, List, length, take, sum_by, Option, Some, None, refl, sym, ap, ◌∙◌, subst, arith}
 use Rattle.std.specs.Prelude.{if◌then◌else◌}
 use Rattle.std.proofs.lemmas.List.Sums.{sum_by-le-sum_by}
 use Rattle.hm_message.specs.declared.message.Codec.{Codec}
 use Rattle.hm_message.specs.declared.message.Message.{Message}
-use Rattle.hm_codec.specs.Frames.{frame_of, framed}
-use Rattle.hd_delivery.specs.Numbers.{most_messages}
+use Rattle.hm_codec.specs.Frames.{frame_of}
 use Rattle.hd_delivery.specs.Frames.{Numbered}
-use Rattle.hd_delivery.specs.Histories.{Config, EndEvent, Sent, sent_messages, codec_of, is_closed, is_shaken, is_resumable, acked_count, most_lent}
+use Rattle.hd_delivery.specs.Histories.{Config, EndEvent, Sent, sent_messages, codec_of, is_shaken, is_resumable, acked_count, most_lent}
 use Rattle.hd_delivery.specs.HistoryLaws.{HistoryFacts, UnreadStays}
-use Rattle.hd_delivery.specs.Worlds.{config, Limits, Sizes, HasRoom, IsAsRead, MaySend}
+use Rattle.hd_delivery.specs.Worlds.{config, Limits, HasRoom, IsAsRead, MaySend}
 use Rattle.hd_delivery.specs.Bytes.{ByteStep, Does, sizes_of}
 use Rattle.hd_trace.specs.declared.trace.Rule.{Rule}
 use Rattle.hd_trace.specs.declared.trace.Rule.TheVariants as rule
@@ -17,7 +16,6 @@ use Rattle.hd_trace.specs.declared.trace.ToldStep.{ToldStep}
 use Rattle.hd_trace.specs.declared.trace.ToldStep.TheVariants.{Send}
 use Rattle.hd_trace.specs.Traces.{Setup, clock}
 use Rattle.hd_trace.specs.Alone.{frames_alone, MayAlone}
-use Rattle.hd_trace.specs.Marks.{marks_of}
 use Rattle.hd_trace.specs.MarkLaws.{MarksFollow}
 use Rattle.hd_trace.specs.ByNumbers.{RoomByNumbers, released}
 use Rattle.ha_audit.specs.declared.alone.auditor.AuditAlone.{AuditAlone}
@@ -26,12 +24,13 @@ use Rattle.ha_audit.specs.Grammar.{HasText}
 use Rattle.ha_audit.specs.AuditState.{framed_size, sum_of_first}
 use Rattle.ha_audit.specs.AuditSteps.{HasRoomFor, SendsSo, CanSend, released_by}
 use Rattle.ha_audit.specs.AloneKeeps.{KeepsAlone, KeptAloneIsKnown, JudgesAlone}
-use Rattle.ha_audit.proofs.AuditLists.{as_many, sum_is, sum_of_all}
+use Rattle.ha_audit.proofs.AuditLists.{sum_is, sum_of_all}
 use Rattle.ha_audit.proofs.AuditRules.{send_breaks_state, send_breaks_room}
 use Rattle.ha_audit.proofs.AloneKept.{kept_sent}
 use Rattle.ha_audit.proofs.AlonePlain.{StaysAlone, plain_on}
 
-module _ (room : RoomByNumbers) (x : Setup) (steps : List ToldStep) (a : AuditAlone) (h : List ByteStep) (keeps : KeepsAlone x steps a h) (facts : HistoryFacts (config a.side x.terms) (frames_alone x a.side h)) where
+module _ (room : RoomByNumbers) (x : Setup) (steps : List ToldStep) (a : AuditAlone) (h : List ByteStep) (keeps : KeepsAlone x steps a h)
+    (facts : HistoryFacts (config a.side x.terms) (frames_alone x a.side h)) where
   abbrev e : AuditedEnd
   e = a.end
 
@@ -77,9 +76,11 @@ module _ (room : RoomByNumbers) (x : Setup) (steps : List ToldStep) (a : AuditAl
   all_is : sum_of_first e.sent.items (length e.sent.items) ≡ sum_by ((sizes_of x.wire).framed (codec_of c k)) (sent_messages k)
   all_is = sum_of_all codec e.sent.items (sent_messages k) keeps.kept.sent ∙ sym (sizes_are (sent_messages k))
 
-  front_is : sum_of_first e.sent.items (released_by e.marks) ≡ sum_by ((sizes_of x.wire).framed (codec_of c k)) (take (released c k) (sent_messages k))
+  front_is : sum_of_first e.sent.items (released_by e.marks) ≡ sum_by ((sizes_of x.wire).framed (codec_of c k))
+      (take (released c k) (sent_messages k))
   front_is = ap (sum_of_first e.sent.items) released_is
-      ∙ (sum_is codec e.sent.items (sent_messages k) keeps.kept.sent (released c k) released_low ∙ sym (sizes_are (take (released c k) (sent_messages k))))
+      ∙ (sum_is codec e.sent.items (sent_messages k) keeps.kept.sent (released c k) released_low ∙ sym
+      (sizes_are (take (released c k) (sent_messages k))))
 
   module _ (m : Message) where
     here_size : framed_size e.marks.codec m ≡ (sizes_of x.wire).framed (codec_of c k) m
@@ -89,10 +90,12 @@ module _ (room : RoomByNumbers) (x : Setup) (steps : List ToldStep) (a : AuditAl
     short_is = ap (λ y. length (frame_of y m)) codec_is ∙ sym (keeps.begun.is_wire.sizes (codec_of c k) m)
 
     -- there is room in the world
-    has_room : (limits : Limits) → x.limits ≡ limits → HasRoomFor e limits m → HasRoom x.limits (sizes_of x.wire) c k ((sizes_of x.wire).framed (codec_of c k) m)
+    has_room : (limits : Limits) → x.limits ≡ limits → HasRoomFor e limits m → HasRoom x.limits (sizes_of x.wire) c k
+        ((sizes_of x.wire).framed (codec_of c k) m)
     has_room limits same r = (room x.limits (sizes_of x.wire) c k ((sizes_of x.wire).framed (codec_of c k) m) released_low).1 (
       (let few = r.of_count in let n = ap (λ l. l.count) same in let sent = sent_is in let free = released_is in omega (arith, few, n, sent, free)),
-      (let few = r.of_bytes in let n = ap (λ l. l.bytes) same in let all = all_is in let front = front_is in let size = here_size in omega (arith, few, n, all, front, size)),
+      (let few = r.of_bytes in let n = ap (λ l. l.bytes) same in let all = all_is in let front = front_is in let size = here_size in omega
+          (arith, few, n, all, front, size)),
     )
 
     room_for : (limits : Limits) → x.limits ≡ limits → MaySend x.limits (sizes_of x.wire) c k m → HasRoomFor e limits m
@@ -100,11 +103,14 @@ module _ (room : RoomByNumbers) (x : Setup) (steps : List ToldStep) (a : AuditAl
         let r = (room x.limits (sizes_of x.wire) c k ((sizes_of x.wire).framed (codec_of c k) m) released_low).0 may.room in record {
           few = (let few = may.few in let sent = sent_is in omega (arith, few, sent));
           short = (let short = may.can_be.short in let is = short_is in let n = ap (λ l. l.frame) same in omega (arith, short, is, n));
-          of_count = (let few = r.0 in let n = ap (λ l. l.count) same in let sent = sent_is in let free = released_is in omega (arith, few, n, sent, free));
-          of_bytes = (let few = r.1 in let n = ap (λ l. l.bytes) same in let all = all_is in let front = front_is in let size = here_size in omega (arith, few, n, all, front, size));
+          of_count = (let few = r.0 in let n = ap (λ l. l.count) same in let sent = sent_is in let free = released_is in omega
+              (arith, few, n, sent, free));
+          of_bytes = (let few = r.1 in let n = ap (λ l. l.bytes) same in let all = all_is in let front = front_is in let size = here_size in omega
+              (arith, few, n, all, front, size));
         }
 
-    may_send : (limits : Limits) → x.limits ≡ limits → HasText m → CanSend e.marks → HasRoomFor e limits m → IsAsRead e.marks.codec m → MaySend x.limits (sizes_of x.wire) c k m
+    may_send : (limits : Limits) → x.limits ≡ limits → HasText m → CanSend e.marks → HasRoomFor e limits m → IsAsRead e.marks.codec m
+        → MaySend x.limits (sizes_of x.wire) c k m
     may_send limits same text can r read = record {
       unclosed = sym (ap (λ m. m.closed) keeps.kept.marks) ∙ can.unclosed;
       shakes = sym shaken_is ∙ can.shaken;
@@ -118,11 +124,19 @@ module _ (room : RoomByNumbers) (x : Setup) (steps : List ToldStep) (a : AuditAl
       room = has_room limits same r;
     }
 
-pub send_judged : MarksFollow → RoomByNumbers → KeptAloneIsKnown → UnreadStays → (old new : AuditAlone) (m : Message) (verdict : Option Rule) → HasText m
+pub send_judged : MarksFollow → RoomByNumbers → KeptAloneIsKnown → UnreadStays → (old new : AuditAlone) (m : Message) (verdict : Option Rule)
+    → HasText m
     → SendsSo old.end new.end old.head.limits m verdict → StaysAlone old new old.clock → JudgesAlone old new (Send m) verdict
 send_judged follow room knows stay old new m None text (can, r, sends) stays x steps h keeps =
     plain_on x steps (Send m) old new h (Does (Sent m)) keeps
-    (record { tells = refl; allowed = (may_send room x steps old h keeps (knows x steps old h keeps).facts m old.head.limits keeps.begun.limits text can r sends.as_read, tt) }) stays
+    (record {
+      tells = refl;
+      allowed = (
+        may_send room x steps old h keeps
+            (knows x steps old h keeps).facts m old.head.limits keeps.begun.limits text can r sends.as_read,
+        tt,
+      );
+    }) stays
     (kept_sent follow x old.side old.end old.splitter old.over h keeps.kept stay m new.end sends)
 send_judged follow room knows stay old new m (Some rule.State) text b stays x steps h keeps =
     send_breaks_state x (MayAlone x old.side h) (config old.side x.terms) (frames_alone x old.side h) (clock steps) m (⊎_elim

@@ -1,13 +1,12 @@
 -- What the lines of one end alone come to, one line after the other.
-use Rattle.std.proofs.Common.{◌≡◌, ℕ, suc, true, false, List, [], ◌∷◌, ◌++◌, length, Option, Some, None, is_some, refl, sym, ap, ◌∙◌, subst}
+use Rattle.std.proofs.Common.{◌≡◌, ℕ, suc, true, false, List, [], ◌∷◌, length, Option, Some, None, is_some, refl, sym, ap, ◌∙◌, subst}
 use Rattle.std.proofs.lemmas.List.{length-map}
 use Rattle.hd_delivery.specs.declared.vocabulary.Side.{Side}
 use Rattle.hd_delivery.specs.declared.vocabulary.Side.TheVariants.{Client, Server}
 use Rattle.hd_delivery.specs.Worlds.{codec_at, version_at}
-use Rattle.hd_delivery.specs.Bytes.{Wire, ByteStep}
+use Rattle.hd_delivery.specs.Bytes.{Wire}
 use Rattle.he_wire.specs.Wires.{IsHouseWire}
 use Rattle.hd_trace.specs.declared.trace.Rule.{Rule}
-use Rattle.hd_trace.specs.declared.trace.ToldStep.{ToldStep}
 use Rattle.hd_trace.specs.declared.trace.TraceLine.{TraceLine}
 use Rattle.hd_trace.specs.Traces.{Setup, steps_of}
 use Rattle.hd_trace.specs.Alone.{TellHistory}
@@ -18,7 +17,7 @@ use Rattle.ha_audit.specs.declared.alone.ProgressAlone.{ProgressAlone}
 use Rattle.ha_audit.specs.declared.head.Head.{Head}
 use Rattle.ha_audit.specs.Grammar.{IsHead, terms_of}
 use Rattle.ha_audit.specs.AuditKeeps.{IsBegunSo}
-use Rattle.ha_audit.specs.AloneKeeps.{KeepsAlone, IsJudgedAlone, JudgesAlone}
+use Rattle.ha_audit.specs.AloneKeeps.{KeepsAlone, JudgesAlone}
 use Rattle.ha_audit.specs.AloneVerdict.{StandsAloneOver, StandsAlone}
 use Rattle.ha_audit.specs.AuditVerdict.{setup_of}
 
@@ -44,13 +43,15 @@ begun_so head wire is_head house = record {
     version Server = refl
 
 -- before the first line
-pub stands_first : (head : Head) (side : Side) (audit : AuditAlone) → IsHead head → audit.side ≡ side → ((x : Setup) → IsBegunSo x head → KeepsAlone x [] audit [])
+pub stands_first : (head : Head) (side : Side) (audit : AuditAlone) → IsHead head → audit.side ≡ side →
+    ((x : Setup) → IsBegunSo x head → KeepsAlone x [] audit [])
     → StandsAlone head side [] (record { audit = audit; broken = None })
 stands_first head side audit is_head same keeps wire house = (same, ([], keeps (setup_of head wire) (begun_so head wire is_head house)))
 
 module _ (head : Head) (side : Side) (lines : List TraceLine) (line : TraceLine) where
   -- a trace that broke off goes on so
-  pub stays_broken : (audit new : AuditAlone) (broken : Break) → StandsAlone head side (steps_of lines) (record { audit = audit; broken = Some broken })
+  pub stays_broken : (audit new : AuditAlone) (broken : Break) → StandsAlone head side (steps_of lines)
+      (record { audit = audit; broken = Some broken })
       → StandsAlone head side (steps_of (line ∷ lines)) (record { audit = new; broken = Some broken })
   stays_broken audit new broken stands wire house = let b = stands wire house in record {
     before = b.before;
@@ -63,15 +64,18 @@ module _ (head : Head) (side : Side) (lines : List TraceLine) (line : TraceLine)
     breaks = b.breaks;
   }
 
-  goes_over : (x : Setup) (audit new : AuditAlone) → JudgesAlone audit new line.step None → StandsAloneOver x side (steps_of lines) audit None → StandsAloneOver x side (steps_of (line ∷ lines)) new None
+  goes_over : (x : Setup) (audit new : AuditAlone) → JudgesAlone audit new line.step None → StandsAloneOver x side (steps_of lines) audit None
+      → StandsAloneOver x side (steps_of (line ∷ lines)) new None
   goes_over x audit new judges (same, (h, keeps)) = let j = judges x (steps_of lines) h keeps in (j.0 ∙ same, (j.1.0 ∷ h, j.1.1.1))
 
   -- a line that breaks no rule
-  pub goes_on : (audit new : AuditAlone) → JudgesAlone audit new line.step None → StandsAlone head side (steps_of lines) (record { audit = audit; broken = None })
+  pub goes_on : (audit new : AuditAlone) → JudgesAlone audit new line.step None → StandsAlone head side (steps_of lines)
+      (record { audit = audit; broken = None })
       → StandsAlone head side (steps_of (line ∷ lines)) (record { audit = new; broken = None })
   goes_on audit new judges stands wire house = goes_over (setup_of head wire) audit new judges (stands wire house)
 
-  breaks_over : (x : Setup) (audit new : AuditAlone) (number : ℕ) (rule : Rule) → number ≡ suc (length (line ∷ lines)) → JudgesAlone audit new line.step (Some rule)
+  breaks_over : (x : Setup) (audit new : AuditAlone) (number : ℕ) (rule : Rule) → number ≡ suc (length (line ∷ lines))
+      → JudgesAlone audit new line.step (Some rule)
       → StandsAloneOver x side (steps_of lines) audit None → BreaksOffAlone x side (steps_of (line ∷ lines)) number rule
   breaks_over x audit new number rule count judges (same, (h, keeps)) = record {
     before = steps_of lines;
@@ -85,10 +89,12 @@ module _ (head : Head) (side : Side) (lines : List TraceLine) (line : TraceLine)
   }
 
   -- one that breaks a rule
-  pub breaks_off : (audit new : AuditAlone) (number : ℕ) (rule : Rule) → number ≡ suc (length (line ∷ lines)) → JudgesAlone audit new line.step (Some rule)
+  pub breaks_off : (audit new : AuditAlone) (number : ℕ) (rule : Rule) → number ≡ suc (length (line ∷ lines)) → JudgesAlone audit new line.step
+      (Some rule)
       → StandsAlone head side (steps_of lines) (record { audit = audit; broken = None })
       → StandsAlone head side (steps_of (line ∷ lines)) (record { audit = new; broken = Some (record { line = number; rule = rule }) })
-  breaks_off audit new number rule count judges stands wire house = breaks_over (setup_of head wire) audit new number rule count judges (stands wire house)
+  breaks_off audit new number rule count judges stands wire house = breaks_over (setup_of head wire) audit new number rule count judges
+      (stands wire house)
 
 -- as the progress is kept
 module _ (head : Head) (side : Side) (lines : List TraceLine) (line : TraceLine) (old : ProgressAlone) where
@@ -100,8 +106,10 @@ module _ (head : Head) (side : Side) (lines : List TraceLine) (line : TraceLine)
       go None e stands = absurd (cc)
       go (Some broken) e stands = stays_broken head side lines line old.audit old.audit broken stands
 
-  pub broken_now : is_some old.broken ≡ false → (new : AuditAlone) (number : ℕ) (rule : Rule) → number ≡ suc (length (line ∷ lines)) → JudgesAlone old.audit new line.step (Some rule)
-      → StandsAlone head side (steps_of lines) old → StandsAlone head side (steps_of (line ∷ lines)) (record { audit = new; broken = Some (record { line = number; rule = rule }) })
+  pub broken_now : is_some old.broken ≡ false → (new : AuditAlone) (number : ℕ) (rule : Rule) → number ≡ suc (length (line ∷ lines))
+      → JudgesAlone old.audit new line.step (Some rule)
+      → StandsAlone head side (steps_of lines) old → StandsAlone head side (steps_of (line ∷ lines))
+      (record { audit = new; broken = Some (record { line = number; rule = rule }) })
   broken_now e new number rule count judges stands = go old.broken e stands
     where
       go : (o : Option Break) → is_some o ≡ false → StandsAlone head side (steps_of lines) (record { audit = old.audit; broken = o })

@@ -1,14 +1,11 @@
 -- What an auditor hands to the rules, by what it keeps.
-use Rattle.std.proofs.Common.{◌≡◌, ◌≤◌, Some, List, length, refl, sym, ap, ◌∙◌, subst}
-use Rattle.hs_shake.specs.declared.shake.Shake.{Shake}
+use Rattle.std.proofs.Common.{◌≡◌, ◌≤◌, Some, List, length, sym, ap, ◌∙◌, subst}
 use Rattle.hd_delivery.specs.declared.vocabulary.Side.{Side}
 use Rattle.hd_delivery.specs.Numbers.{most_messages}
 use Rattle.hd_delivery.specs.Worlds.{config, Event}
 use Rattle.hd_delivery.specs.Bytes.{ByteStep}
-use Rattle.hd_delivery.specs.Sides.{history}
 use Rattle.hd_trace.specs.declared.trace.TraceLine.{TraceLine}
 use Rattle.hd_trace.specs.Traces.{Setup, frames_beside}
-use Rattle.hd_trace.specs.Marks.{marks_of}
 use Rattle.hd_delivery.specs.Histories.{sent_messages, lent_frames}
 use Rattle.ha_audit.specs.declared.auditor.Audit.{Audit}
 use Rattle.ha_audit.specs.AuditState.{said_on, frames_of, frame_said}

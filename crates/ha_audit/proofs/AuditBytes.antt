@@ -1,10 +1,9 @@
 -- Bytes that an end is fed.
-use Rattle.std.proofs.Common.{inl, inr, ⊎_elim, ◌≡◌, ◌⊎◌, ◌↔◌, ◌≤◌, ◌<◌, ℕ, suc, ◌+◌, ◌-◌, Bool, true, false, List, [], ◌∷◌, length, take, drop, flat_map, Option, Some, None, refl, sym, ap, ◌∙◌, subst, arith}
+use Rattle.std.proofs.Common.{◌≡◌, ◌≤◌, ℕ, ◌+◌, ◌-◌, List, length, drop, flat_map, Option, Some, None, refl, sym, ap, ◌∙◌, subst, arith}
 use Rattle.hd_facts.specs.Prefixes.{IsPrefix}
 use Rattle.hd_delivery.specs.declared.vocabulary.Side.{Side}
 use Rattle.hd_delivery.specs.Numbers.{most_framing}
-use Rattle.hd_delivery.specs.Frames.{LinkFrame}
-use Rattle.hd_delivery.specs.Histories.{Config, EndEvent, present_link, lent_frames, taken_count, codec_of, is_closed}
+use Rattle.hd_delivery.specs.Histories.{present_link, lent_frames, taken_count, is_closed}
 use Rattle.hd_delivery.specs.Laws.{FedIsUnseen}
 use Rattle.hd_delivery.specs.Worlds.{config, Event}
 use Rattle.hd_delivery.specs.Bytes.{ByteStep, Bytes, bytes_on, unread_count}
@@ -18,9 +17,8 @@ use Rattle.hd_trace.specs.Recording.{line_of}
 use Rattle.hd_trace.specs.MarkLaws.{MarksFollow}
 use Rattle.hd_trace.specs.ByNumbers.{FeedsByNumbers, IsNextThere, IsOpenOn, UnreadByNumbers, read_there, said_there, TakenAreLent}
 use Rattle.ha_audit.specs.declared.auditor.Audit.{Audit}
-use Rattle.ha_audit.specs.declared.auditor.audited_end.AuditedEnd.{AuditedEnd}
-use Rattle.ha_audit.specs.AuditState.{said_on, bytes_of, frames_of, size_of_first, frames_size}
-use Rattle.ha_audit.specs.AuditKeeps.{KeepsEnd, Keeps, end_of, IsJudged, Judges}
+use Rattle.ha_audit.specs.AuditState.{said_on, bytes_of, frames_of, size_of_first}
+use Rattle.ha_audit.specs.AuditKeeps.{Keeps, end_of, Judges}
 use Rattle.ha_audit.specs.AuditSteps.{FeedsSo, IsNextOf, IsOpenAt}
 use Rattle.ha_audit.proofs.AuditLists.{size_is}
 use Rattle.ha_audit.proofs.AuditKept.{kept_fed}

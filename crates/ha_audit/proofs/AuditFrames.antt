@@ -1,5 +1,5 @@
 -- Frames that an end says.
-use Rattle.std.proofs.Common.{inl, inr, ⊎_elim, ◌≡◌, ◌≤◌, ◌<◌, ◌==◌, ℕ, suc, ◌+◌, Bool, true, false, List, [], ◌∷◌, ◌++◌, length, Option, Some, None, refl, sym, ap, ◌∙◌, subst, arith, option_map, slice_get, map, flat_map}
+use Rattle.std.proofs.Common.{◌≡◌, ◌≤◌, ◌<◌, ◌==◌, ℕ, ◌+◌, Bool, true, false, List, [], ◌∷◌, ◌++◌, length, Option, Some, None, refl, sym, ap, ◌∙◌, subst, option_map, slice_get, map}
 use Rattle.std.specs.Prelude.{if◌then◌else◌}
 use Rattle.std.proofs.lemmas.Bool.{eqb-true}
 use Rattle.hm_message.specs.declared.message.Codec.{Codec}
@@ -8,11 +8,10 @@ use Rattle.hd_delivery.specs.declared.vocabulary.Side.{Side}
 use Rattle.hd_delivery.specs.Numbers.{most_messages}
 use Rattle.hd_delivery.specs.Frames.{LinkFrame}
 use Rattle.hd_delivery.specs.Histories.{Config, EndEvent, Lent, is_this, present_link, was_on, lent_frames, sent_messages, codec_of}
-use Rattle.hd_delivery.specs.HistoryLaws.{HistoryFacts}
 use Rattle.hd_delivery.specs.Due.{due}
 use Rattle.hd_delivery.specs.Worlds.{config, Event}
-use Rattle.hd_delivery.specs.Bytes.{Wire, ByteStep, Does, in_frames}
-use Rattle.hd_delivery.specs.Sides.{other, history}
+use Rattle.hd_delivery.specs.Bytes.{ByteStep, Does, in_frames}
+use Rattle.hd_delivery.specs.Sides.{history}
 use Rattle.he_wire.specs.Spelling.{spelling}
 use Rattle.hd_trace.specs.declared.trace.Rule.{Rule}
 use Rattle.hd_trace.specs.declared.trace.Rule.TheVariants as rule
@@ -20,14 +19,13 @@ use Rattle.hd_trace.specs.declared.trace.ToldStep.TheVariants.{Lend}
 use Rattle.hd_trace.specs.declared.trace.TraceLine.{TraceLine}
 use Rattle.hd_trace.specs.Traces.{Setup, clock, steps_of, frames_beside, MayBeside, MakesAt}
 use Rattle.hd_trace.specs.Recording.{line_of}
-use Rattle.hd_trace.specs.Marks.{marks_of, lent}
+use Rattle.hd_trace.specs.Marks.{lent}
 use Rattle.hd_trace.specs.MarkLaws.{MarksFollow, DueIsMarked}
 use Rattle.hd_trace.specs.ByMarks.{due_by}
 use Rattle.ha_audit.specs.declared.auditor.Audit.{Audit}
 use Rattle.ha_audit.specs.declared.auditor.audited_end.AuditedEnd.{AuditedEnd}
-use Rattle.ha_audit.specs.declared.auditor.said.SaidFrame.{SaidFrame}
 use Rattle.ha_audit.specs.declared.auditor.said.SaidOnLink.{SaidOnLink}
-use Rattle.ha_audit.specs.AuditState.{AreSent, messages_of, said_on, has_link, bytes_of, frames_of, frame_said, IsSaidOn}
+use Rattle.ha_audit.specs.AuditState.{AreSent, messages_of, said_on, bytes_of, frames_of, frame_said, IsSaidOn}
 use Rattle.ha_audit.specs.AuditKeeps.{KeepsEnd, Keeps, end_of, IsJudged, Judges}
 use Rattle.ha_audit.specs.AuditSteps.{LendsSo, Says, Adds}
 use Rattle.ha_audit.specs.AuditLaws.{Known, KeptIsKnown}

@@ -1,30 +1,26 @@
 -- What a step of an end makes of what is kept of it.
-use Rattle.std.proofs.Common.{inl, inr, ⊎_elim, ◌≡◌, ◌⊎◌, ◌≤◌, ◌<◌, ℕ, suc, ◌+◌, max, Bool, true, false, ◌==◌, ◌||◌, List, [], ◌∷◌, ◌++◌, length, Option, Some, None, refl, sym, ap, ◌∙◌, subst, arith, length-append, slice_get, is_some}
+use Rattle.std.proofs.Common.{◌≡◌, ◌≤◌, ℕ, ◌+◌, Bool, true, false, ◌==◌, ◌||◌, List, [], ◌∷◌, ◌++◌, length, Some, None, refl, sym, ap, ◌∙◌, subst, length-append, is_some}
 use Rattle.std.specs.Prelude.{if◌then◌else◌}
 use Rattle.std.proofs.lemmas.Bool.{eqb-true, eq-eqb}
 use Rattle.hm_message.specs.declared.message.Message.{Message}
 use Rattle.hm_codec.specs.Frames.{IsSaid}
-use Rattle.hd_delivery.specs.declared.vocabulary.Got.{Got}
 use Rattle.hd_delivery.specs.declared.vocabulary.Reason.{Reason}
-use Rattle.hd_delivery.specs.declared.vocabulary.Reason.TheVariants.{Done}
 use Rattle.hd_delivery.specs.declared.vocabulary.Side.{Side}
-use Rattle.hd_delivery.specs.Frames.{LinkFrame}
-use Rattle.hd_delivery.specs.Histories.{Config, EndEvent, Attached, Detached, Fed, Took, Sent, Lent, Ticked, Silenced, Closed, is_this, present_link, was_on, stands_on, fed_frames, lent_frames, taken_count, sent_messages, codec_of}
+use Rattle.hd_delivery.specs.Histories.{Config, EndEvent, Attached, Detached, Sent, Ticked, Silenced, Closed, is_this, present_link, was_on, fed_frames, lent_frames, taken_count, sent_messages}
 use Rattle.hd_delivery.specs.HistoryLaws.{UnusedIsUntouched}
 use Rattle.hd_delivery.specs.AloneLaws.{UnusedIsEmpty}
 use Rattle.hd_delivery.specs.Laws.{FedIsUnseen}
 use Rattle.hd_delivery.specs.Worlds.{config}
-use Rattle.hd_delivery.specs.Bytes.{ByteStep, Bytes, Does, bare_steps, bytes_on, in_frames}
-use Rattle.hd_trace.specs.declared.marks.Marks.{Marks}
+use Rattle.hd_delivery.specs.Bytes.{ByteStep, Bytes, Does, bytes_on, in_frames}
 use Rattle.hd_trace.specs.Traces.{Setup}
-use Rattle.hd_trace.specs.Marks.{marks_of, attached, left, heard_something, lent, ticked, sent_one, closed_for, took}
+use Rattle.hd_trace.specs.Marks.{attached, left, heard_something, ticked, sent_one, closed_for}
 use Rattle.hd_trace.specs.MarkLaws.{MarksFollow}
 use Rattle.ha_audit.specs.declared.auditor.audited_end.AuditedEnd.{AuditedEnd}
 use Rattle.ha_audit.specs.declared.auditor.said.SaidOnLink.{SaidOnLink}
-use Rattle.ha_audit.specs.AuditState.{AreSent, said_on, has_link, bytes_of, frames_of, IsSaidOn, framed_size, sum_of_first}
-use Rattle.ha_audit.specs.AuditKeeps.{IsRead, KeepsFrames, KeepsEnd}
-use Rattle.ha_audit.specs.AuditSteps.{Opens, Attaches, SendsOne, Says, Adds}
-use Rattle.ha_audit.proofs.AuditLists.{sent_more, message_more, frame_more, said_none}
+use Rattle.ha_audit.specs.AuditState.{AreSent, said_on, has_link, IsSaidOn, framed_size, sum_of_first}
+use Rattle.ha_audit.specs.AuditKeeps.{KeepsEnd}
+use Rattle.ha_audit.specs.AuditSteps.{Attaches, SendsOne}
+use Rattle.ha_audit.proofs.AuditLists.{sent_more, message_more, said_none}
 
 module _ (follow : MarksFollow) (x : Setup) (side : Side) (end : AuditedEnd) (h : List ByteStep)
     (keeps : KeepsEnd x side end h) where

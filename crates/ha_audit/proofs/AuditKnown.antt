@@ -1,25 +1,21 @@
 -- What is known of a world that is kept.
-use Rattle.std.proofs.Common.{inl, inr, ⊎_elim, ◌≡◌, ◌⊎◌, ◌≤◌, ◌<◌, ℕ, suc, ◌+◌, max, Bool, true, false, List, [], ◌∷◌, ◌++◌, length, Option, Some, None, refl, sym, ap, ◌∙◌, subst, arith, Contains}
+use Rattle.std.proofs.Common.{⊎_elim, ◌≡◌, List, ◌∷◌, ◌++◌, refl, sym, ap, ◌∙◌, subst}
 use Rattle.std.proofs.lemmas.List.Elements.{Contains-append_cases}
 use Rattle.hm_message.specs.declared.message.Codec.{Codec}
 use Rattle.hm_message.specs.declared.message.Message.{Message}
-use Rattle.hs_shake.specs.Requests.{IsVersion}
 use Rattle.hd_delivery.specs.declared.vocabulary.Side.{Side}
 use Rattle.hd_delivery.specs.declared.vocabulary.Side.TheVariants.{Client, Server}
-use Rattle.hd_delivery.specs.Bounds.{AreLimits}
-use Rattle.hd_delivery.specs.Histories.{Config, EndEvent, sent_messages, moment}
+use Rattle.hd_delivery.specs.Histories.{sent_messages}
 use Rattle.hd_delivery.specs.HistoryLaws.{WorldsAreHistories, HistoryFacts, FactsHold}
 use Rattle.hd_delivery.specs.Worlds.{config, Event, alike}
-use Rattle.hd_delivery.specs.Bytes.{ByteStep, Bytes, Does, IsSoundWire, in_frames}
+use Rattle.hd_delivery.specs.Bytes.{ByteStep}
 use Rattle.hd_delivery.specs.OneHistory.{IsHistory}
 use Rattle.hd_delivery.specs.Sides.{other, by, history}
 use Rattle.he_wire.specs.Laws.{WireIsSound, WireIsFaithful}
 use Rattle.he_wire.specs.Wires.{AreSaid}
-use Rattle.hd_trace.specs.declared.trace.ToldStep.{ToldStep}
 use Rattle.hd_trace.specs.declared.trace.TraceLine.{TraceLine}
-use Rattle.hd_trace.specs.Traces.{Setup, clock, clock_after, steps_of, frames_beside, MakesAt, TellWorld}
-use Rattle.hd_trace.specs.Laws.{ToldIsWorld, IsToldWorld}
-use Rattle.hd_trace.specs.ByNumbers.{IsFaithfulWorld}
+use Rattle.hd_trace.specs.Traces.{Setup, clock, clock_after, steps_of, frames_beside, MakesAt}
+use Rattle.hd_trace.specs.Laws.{ToldIsWorld}
 use Rattle.ha_audit.specs.declared.auditor.Audit.{Audit}
 use Rattle.ha_audit.specs.AuditKeeps.{IsBegunSo, KeepsEnd, Keeps, end_of}
 use Rattle.ha_audit.specs.AuditLaws.{Known}

@@ -1,27 +1,25 @@
 -- A link that an end begins.
-use Rattle.std.proofs.Common.{inl, inr, ⊎_elim, ◌≡◌, ◌⊎◌, ◌↔◌, ◌≤◌, ◌<◌, ℕ, suc, ◌+◌, Bool, true, false, not, ◌&&◌, ◌||◌, List, [], ◌∷◌, length, Option, Some, None, refl, sym, ap, ◌∙◌, subst, arith, is_some}
+use Rattle.std.proofs.Common.{inl, inr, ⊎_elim, ◌≡◌, ◌⊎◌, ℕ, Bool, true, false, not, ◌&&◌, ◌||◌, List, Option, Some, None, refl, sym, ◌∙◌, subst, is_some}
 use Rattle.hd_delivery.specs.declared.vocabulary.Side.{Side}
 use Rattle.hd_delivery.specs.declared.vocabulary.Side.TheVariants.{Client, Server}
-use Rattle.hd_delivery.specs.Histories.{Config, EndEvent, Attached, was_on, moment}
+use Rattle.hd_delivery.specs.Histories.{Attached}
 use Rattle.hd_delivery.specs.HistoryLaws.{UnusedIsUntouched}
 use Rattle.hd_delivery.specs.AloneLaws.{UnusedIsEmpty}
 use Rattle.hd_delivery.specs.Worlds.{config, Event}
 use Rattle.hd_delivery.specs.Bytes.{ByteStep, Does}
-use Rattle.hd_delivery.specs.Sides.{other, history}
+use Rattle.hd_delivery.specs.Sides.{history}
 use Rattle.hd_trace.specs.declared.marks.Marks.{Marks}
 use Rattle.hd_trace.specs.declared.trace.Rule.TheVariants as rule
 use Rattle.hd_trace.specs.declared.trace.ToldStep.TheVariants.{Attach}
-use Rattle.hd_trace.specs.declared.trace.TraceLine.{TraceLine}
 use Rattle.hd_trace.specs.Traces.{Setup, clock, steps_of, frames_beside, MayBeside, MakesAt}
 use Rattle.hd_trace.specs.Recording.{line_of}
 use Rattle.hd_trace.specs.Laws.{ToldIsWorld}
 use Rattle.hd_trace.specs.Marks.{marks_of}
 use Rattle.hd_trace.specs.MarkLaws.{MarksFollow}
-use Rattle.hd_trace.specs.ByMarks.{MayBeginBy}
 use Rattle.hd_trace.specs.ByNumbers.{IsAbove, IsNewBeside, AttachesByNumbers}
 use Rattle.ha_audit.specs.declared.auditor.Audit.{Audit}
 use Rattle.ha_audit.specs.AuditState.{has_link}
-use Rattle.ha_audit.specs.AuditKeeps.{KeepsEnd, Keeps, end_of, IsJudged, Judges}
+use Rattle.ha_audit.specs.AuditKeeps.{KeepsEnd, end_of, Judges}
 use Rattle.ha_audit.specs.AuditSteps.{Attaches}
 use Rattle.ha_audit.proofs.AuditKept.{kept_attached}
 use Rattle.ha_audit.proofs.AuditKnown.{keeps_on}

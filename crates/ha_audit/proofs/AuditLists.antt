@@ -1,6 +1,5 @@
 -- Lists that grow by one, and what is kept beside them.
-use Rattle.std.proofs.Common.{inl, inr, ⊎_elim, ◌≡◌, ◌⊎◌, ◌≤◌, ◌<◌, ℕ, zero, suc, ◌+◌, Bool, true, false, List, [], ◌∷◌, ◌++◌, length, take, map, flat_map, sum_by, slice_get, Option, Some, None, refl, sym, ap, ap₂, ◌∙◌, subst, arith, length-append, append-nil, take_all}
-use Rattle.std.specs.Prelude.{option_map}
+use Rattle.std.proofs.Common.{inl, inr, ⊎_elim, ◌≡◌, ◌⊎◌, ◌≤◌, ◌<◌, ℕ, zero, suc, ◌+◌, List, [], ◌∷◌, ◌++◌, length, take, map, flat_map, sum_by, slice_get, Option, Some, None, refl, sym, ap, ap₂, ◌∙◌, subst, arith, length-append, append-nil, take_all}
 use Rattle.std.proofs.lemmas.List.{map-append, length-map}
 use Rattle.std.proofs.lemmas.List.Concat.{flat_map-append, length-flat_map}
 use Rattle.std.proofs.lemmas.List.Elements.{Contains-push_cases}
@@ -12,14 +11,13 @@ use Rattle.hm_codec.specs.Frames.{IsSaid}
 use Rattle.hd_delivery.specs.Numbers.{most_messages}
 use Rattle.hd_delivery.specs.Frames.{LinkFrame}
 use Rattle.hd_delivery.specs.Histories.{Config}
-use Rattle.he_wire.specs.Wires.{AreSaid}
 use Rattle.hd_trace.specs.declared.owed.Owed.{Owed}
 use Rattle.hd_trace.specs.declared.owed.Owed.TheVariants as owed
 use Rattle.hd_trace.specs.Owed.{owed_frame}
 use Rattle.ha_audit.specs.declared.auditor.said.SaidFrame.{SaidFrame}
 use Rattle.ha_audit.specs.declared.auditor.said.SaidOnLink.{SaidOnLink}
 use Rattle.ha_audit.specs.declared.auditor.sent.SentMessage.{SentMessage}
-use Rattle.ha_audit.specs.AuditState.{messages_of, framed_size, AreSent, sum_in, sum_of_first, bytes_of, frames_of, frame_said, frames_size, IsSaidOn, end_in, size_of_first}
+use Rattle.ha_audit.specs.AuditState.{framed_size, AreSent, sum_in, sum_of_first, bytes_of, frames_of, frame_said, frames_size, IsSaidOn, end_in, size_of_first}
 
 -- ---- places
 

@@ -1,35 +1,32 @@
 -- Messages that an end is handed to send.
-use Rattle.std.proofs.Common.{inl, inr, ⊎_elim, ◌≡◌, ◌⊎◌, ◌↔◌, ◌≤◌, ◌<◌, ℕ, suc, ◌+◌, Bool, true, false, List, [], ◌∷◌, length, take, sum_by, Option, Some, None, refl, sym, ap, ◌∙◌, subst, arith}
+use Rattle.std.proofs.Common.{inl, inr, ⊎_elim, ◌≡◌, ◌≤◌, Bool, true, false, List, length, take, sum_by, Option, Some, None, refl, sym, ap, ◌∙◌, subst, arith}
 use Rattle.std.specs.Prelude.{if◌then◌else◌}
 use Rattle.std.proofs.lemmas.List.Sums.{sum_by-le-sum_by}
 use Rattle.hm_message.specs.declared.message.Codec.{Codec}
 use Rattle.hm_message.specs.declared.message.Message.{Message}
-use Rattle.hm_codec.specs.Frames.{frame_of, framed}
+use Rattle.hm_codec.specs.Frames.{frame_of}
 use Rattle.hd_delivery.specs.declared.vocabulary.Side.{Side}
-use Rattle.hd_delivery.specs.Numbers.{most_messages}
 use Rattle.hd_delivery.specs.Frames.{Numbered}
-use Rattle.hd_delivery.specs.Histories.{Config, EndEvent, Sent, sent_messages, codec_of, is_closed, is_shaken, is_resumable, acked_count, most_lent}
-use Rattle.hd_delivery.specs.Worlds.{config, Event, Limits, Sizes, HasRoom, IsAsRead, MaySend}
+use Rattle.hd_delivery.specs.Histories.{Config, EndEvent, Sent, sent_messages, codec_of, is_shaken, is_resumable, acked_count, most_lent}
+use Rattle.hd_delivery.specs.Worlds.{config, Event, Limits, HasRoom, IsAsRead, MaySend}
 use Rattle.hd_delivery.specs.Bytes.{ByteStep, Does, sizes_of}
-use Rattle.hd_delivery.specs.Sides.{other, history}
-use Rattle.hd_trace.specs.declared.marks.Marks.{Marks}
+use Rattle.hd_delivery.specs.Sides.{history}
 use Rattle.hd_trace.specs.declared.trace.Rule.{Rule}
 use Rattle.hd_trace.specs.declared.trace.Rule.TheVariants as rule
 use Rattle.hd_trace.specs.declared.trace.ToldStep.TheVariants.{Send}
 use Rattle.hd_trace.specs.declared.trace.TraceLine.{TraceLine}
 use Rattle.hd_trace.specs.Traces.{Setup, clock, steps_of, frames_beside, MayBeside, MakesAt}
 use Rattle.hd_trace.specs.Recording.{line_of}
-use Rattle.hd_trace.specs.Marks.{marks_of}
 use Rattle.hd_trace.specs.MarkLaws.{MarksFollow}
 use Rattle.hd_trace.specs.ByNumbers.{RoomByNumbers, released}
 use Rattle.ha_audit.specs.declared.auditor.Audit.{Audit}
 use Rattle.ha_audit.specs.declared.auditor.audited_end.AuditedEnd.{AuditedEnd}
 use Rattle.ha_audit.specs.Grammar.{HasText}
 use Rattle.ha_audit.specs.AuditState.{framed_size, sum_of_first}
-use Rattle.ha_audit.specs.AuditKeeps.{KeepsEnd, Keeps, end_of, IsJudged, Judges}
+use Rattle.ha_audit.specs.AuditKeeps.{Keeps, end_of, Judges}
 use Rattle.ha_audit.specs.AuditSteps.{HasRoomFor, SendsSo, CanSend, released_by}
 use Rattle.ha_audit.specs.AuditLaws.{Known, KeptIsKnown}
-use Rattle.ha_audit.proofs.AuditLists.{as_many, sum_is, sum_of_all}
+use Rattle.ha_audit.proofs.AuditLists.{sum_is, sum_of_all}
 use Rattle.ha_audit.proofs.AuditKept.{kept_sent}
 use Rattle.ha_audit.proofs.AuditKnown.{keeps_on}
 use Rattle.ha_audit.proofs.AuditRules.{send_breaks_state, send_breaks_room}

@@ -1,22 +1,21 @@
 -- The numbers of what is next on a link are small.
-use Rattle.std.proofs.Common.{inl, inr, ⊎_elim, ◌≡◌, ◌≤◌, ◌<◌, ℕ, zero, suc, ◌+◌, ◌-◌, Bool, true, false, List, [], ◌∷◌, length, take, fold, nat_le, Option, Some, None, IfSome, refl, sym, ap, ◌∙◌, subst, arith, length-take}
-use Rattle.std.specs.Prelude.{if◌then◌else◌, max}
+use Rattle.std.proofs.Common.{◌≡◌, ◌≤◌, ◌<◌, ℕ, zero, suc, ◌+◌, ◌-◌, Bool, true, false, List, [], ◌∷◌, length, take, fold, nat_le, Option, Some, None, IfSome, refl, sym, ap, subst, arith, length-take}
+use Rattle.std.specs.Prelude.{if◌then◌else◌}
 use Rattle.hd_delivery.specs.declared.vocabulary.Side.{Side}
 use Rattle.hd_delivery.specs.declared.vocabulary.Side.TheVariants.{Client, Server}
 use Rattle.hd_delivery.specs.Numbers.{most_messages, most_of_64_bits}
 use Rattle.hd_delivery.specs.Frames.{LinkFrame, Request, Response, Refusal, Numbered, Ack, Sequence, Ping, Close, Foreign, Strange, Unreadable, count, number, one_more}
-use Rattle.hd_delivery.specs.Histories.{Config, EndEvent, present_link, fed_frames, lent_frames, taken_count, read_frames, processed_messages, sent_messages}
+use Rattle.hd_delivery.specs.Histories.{present_link, fed_frames, lent_frames, taken_count, read_frames, processed_messages}
 use Rattle.hd_delivery.specs.Laws.{whole_frames, FedIsWhole}
-use Rattle.hd_delivery.specs.Worlds.{config, Event, alike, IsSound}
+use Rattle.hd_delivery.specs.Worlds.{Event, alike, IsSound}
 use Rattle.hd_delivery.specs.Bytes.{ByteStep, bytes_on, HoldsOverBytes}
 use Rattle.hd_delivery.specs.Sides.{other, history}
-use Rattle.hd_trace.specs.declared.marks.Marks.{Marks}
 use Rattle.hd_trace.specs.declared.trace.TraceLine.{TraceLine}
 use Rattle.hd_trace.specs.Traces.{Setup, frames_beside}
-use Rattle.hd_trace.specs.Marks.{marks_of, lent_on, read_on}
+use Rattle.hd_trace.specs.Marks.{lent_on, read_on}
 use Rattle.hd_trace.specs.Owed.{HasNextNumbers}
 use Rattle.ha_audit.specs.declared.auditor.Audit.{Audit}
-use Rattle.ha_audit.specs.AuditState.{said_on, frames_of}
+use Rattle.ha_audit.specs.AuditState.{said_on}
 use Rattle.ha_audit.specs.AuditKeeps.{Keeps, end_of}
 use Rattle.ha_audit.specs.AuditLaws.{Known}
 use Rattle.ha_audit.proofs.AuditLists.{as_many_frames}

@@ -1,13 +1,12 @@
 -- Lines that ask nothing of the other end: a link is lost, a moment comes, an end is closed.
-use Rattle.std.proofs.Common.{inl, inr, ⊎_elim, ◌≡◌, ◌⊎◌, ◌≤◌, ◌<◌, ℕ, suc, ◌+◌, max, Bool, true, false, List, [], ◌∷◌, length, Option, Some, None, IfNone, IfSome, refl, sym, ap, ◌∙◌, subst, arith}
+use Rattle.std.proofs.Common.{inl, inr, ◌≡◌, ◌≤◌, ◌<◌, ℕ, Bool, true, false, List, Option, Some, None, IfNone, IfSome, refl, sym, ap, ◌∙◌, subst, arith}
 use Rattle.std.specs.Prelude.{if◌then◌else◌}
 use Rattle.hd_delivery.specs.declared.vocabulary.Reason.TheVariants.{Done}
 use Rattle.hd_delivery.specs.declared.vocabulary.Side.{Side}
-use Rattle.hd_delivery.specs.Histories.{Config, EndEvent, Detached, Ticked, Silenced, Closed, present_link, is_closed, is_silence}
+use Rattle.hd_delivery.specs.Histories.{Detached, Ticked, Silenced, Closed, is_silence}
 use Rattle.hd_delivery.specs.Worlds.{config, Event}
 use Rattle.hd_delivery.specs.Bytes.{ByteStep, Does}
 use Rattle.hd_delivery.specs.Sides.{other, history}
-use Rattle.hd_trace.specs.declared.marks.Marks.{Marks}
 use Rattle.hd_trace.specs.declared.trace.Rule.{Rule}
 use Rattle.hd_trace.specs.declared.trace.Rule.TheVariants as rule
 use Rattle.hd_trace.specs.declared.trace.ToldStep.TheVariants.{Detach, Tick, Close}
@@ -16,12 +15,11 @@ use Rattle.hd_trace.specs.Traces.{Setup, clock, steps_of, frames_beside, MayBesi
 use Rattle.hd_trace.specs.Breaking.{BreaksWorld}
 use Rattle.hd_trace.specs.Recording.{line_of}
 use Rattle.hd_trace.specs.Laws.{ToldIsWorld}
-use Rattle.hd_trace.specs.Marks.{marks_of, left, ticked, closed_for}
+use Rattle.hd_trace.specs.Marks.{left, ticked, closed_for}
 use Rattle.hd_trace.specs.MarkLaws.{MarksFollow, TakesAreMarked}
 use Rattle.hd_trace.specs.ByMarks.{is_silence_by}
 use Rattle.ha_audit.specs.declared.auditor.Audit.{Audit}
-use Rattle.ha_audit.specs.declared.auditor.audited_end.AuditedEnd.{AuditedEnd}
-use Rattle.ha_audit.specs.AuditKeeps.{KeepsEnd, Keeps, end_of, IsJudged, Judges}
+use Rattle.ha_audit.specs.AuditKeeps.{Keeps, end_of, IsJudged, Judges}
 use Rattle.ha_audit.proofs.AuditKept.{kept_detached, kept_silenced, kept_ticked, kept_closed}
 use Rattle.ha_audit.proofs.AuditKnown.{keeps_on}
 use Rattle.ha_audit.proofs.AuditRules.{detach_breaks, tick_breaks, close_breaks}

@@ -1,5 +1,5 @@
 -- Frames that an end deals with.
-use Rattle.std.proofs.Common.{inl, inr, ⊎_elim, ◌≡◌, ◌↔◌, ◌≤◌, ◌<◌, ◌==◌, ℕ, suc, ◌+◌, Bool, true, false, List, [], ◌∷◌, ◌++◌, length, take, sum_by, nat_le, Option, Some, None, refl, sym, ap, ap₂, ◌∙◌, subst, arith, option_map, slice_get}
+use Rattle.std.proofs.Common.{◌≡◌, ℕ, suc, Bool, true, false, List, ◌∷◌, length, take, sum_by, nat_le, Option, Some, None, refl, sym, ap, ◌∙◌, subst, arith, slice_get}
 use Rattle.std.specs.Prelude.{if◌then◌else◌}
 use Rattle.std.proofs.lemmas.Bool.{eq-eqb}
 use Rattle.std.proofs.lemmas.Option.{slice_get_within}
@@ -10,7 +10,6 @@ use Rattle.hd_delivery.specs.declared.vocabulary.Side.{Side}
 use Rattle.hd_delivery.specs.declared.vocabulary.Side.TheVariants.{Client, Server}
 use Rattle.hd_delivery.specs.Frames.{LinkFrame}
 use Rattle.hd_delivery.specs.Histories.{Config, EndEvent, Took, is_this, present_link, fed_frames, lent_frames, taken_count, sent_messages, processed_messages, codec_of}
-use Rattle.hd_delivery.specs.Processes.{processes}
 use Rattle.hd_delivery.specs.Worlds.{config, codec_at, Event}
 use Rattle.hd_delivery.specs.Bytes.{ByteStep, Does, bytes_on, in_frames}
 use Rattle.hd_delivery.specs.Sides.{other, history}
@@ -27,13 +26,13 @@ use Rattle.hd_trace.specs.Recording.{line_of}
 use Rattle.hd_trace.specs.Given.{given_got}
 use Rattle.hd_trace.specs.Marks.{marks_of, took}
 use Rattle.hd_trace.specs.MarkLaws.{MarksFollow}
-use Rattle.hd_trace.specs.ByNumbers.{TakesByLines, NextIsFed, IsOpenOn, frame_there, next_there, taken_by}
+use Rattle.hd_trace.specs.ByNumbers.{TakesByLines, NextIsFed, frame_there, next_there, taken_by}
 use Rattle.ha_audit.specs.declared.auditor.Audit.{Audit}
 use Rattle.ha_audit.specs.declared.auditor.audited_end.AuditedEnd.{AuditedEnd}
 use Rattle.ha_audit.specs.declared.auditor.said.SaidFrame.{SaidFrame}
-use Rattle.ha_audit.specs.AuditState.{messages_of, said_on, frames_of, frame_said, frames_size, whole_frame}
-use Rattle.ha_audit.specs.AuditKeeps.{IsBegunSo, KeepsEnd, Keeps, end_of, IsJudged, Judges}
-use Rattle.ha_audit.specs.AuditSteps.{TakesSo, IsTakenSo, IsOpenAt, IsGot, next_of}
+use Rattle.ha_audit.specs.AuditState.{messages_of, said_on, frames_of, frame_said, whole_frame}
+use Rattle.ha_audit.specs.AuditKeeps.{KeepsEnd, Keeps, end_of, IsJudged, Judges}
+use Rattle.ha_audit.specs.AuditSteps.{TakesSo, next_of}
 use Rattle.ha_audit.specs.AuditLaws.{Known, KeptIsKnown}
 use Rattle.ha_audit.proofs.AuditLists.{as_many_frames, some_at}
 use Rattle.ha_audit.proofs.AuditLists as lists

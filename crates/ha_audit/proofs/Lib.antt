@@ -22,6 +22,7 @@ pub mod AuditSent
 pub mod AuditTaking
 pub mod AuditStanding
 pub mod AuditPassing
+pub mod AloneNumbers
 pub mod AloneKept
 pub mod AlonePlain
 pub mod AloneLinks

@@ -1,5 +1,5 @@
 -- What an auditor of one end alone keeps of its lines so far: how its state is that of the history which they tell.
-use Rattle.std.specs.Prelude.{◌≡◌, ℕ, List, [], ◌∷◌, Option, Some, None}
+use Rattle.std.specs.Prelude.{◌≡◌, ℕ, List, ◌∷◌, Option, Some, None}
 use Rattle.hf_split.specs.Held.{Held}
 use Rattle.hd_delivery.specs.declared.vocabulary.Side.{Side}
 use Rattle.hd_delivery.specs.HistoryLaws.{HistoryFacts}
@@ -18,11 +18,13 @@ use Rattle.ha_audit.specs.declared.alone.auditor.AuditAlone.{AuditAlone}
 use Rattle.ha_audit.specs.declared.auditor.audited_end.AuditedEnd.{AuditedEnd}
 use Rattle.ha_audit.specs.AuditState.{AreSent, has_link}
 use Rattle.ha_audit.specs.AuditKeeps.{IsBegunSo}
-use Rattle.ha_audit.specs.AloneState.{as_kept, HoldsBytes}
+use Rattle.ha_audit.specs.AloneState.{as_kept, HoldsBytes, HasNearNumbers}
 
 -- what is kept of the end of this side, whose history in frames is k
-pub record KeepsFrames (x : Setup) (side : Side) (end : AuditedEnd) (splitter : Held) (over : ℕ) (h : List ByteStep) (k : List EndEvent) : Type 0 where
+pub record KeepsFrames (x : Setup) (side : Side) (end : AuditedEnd) (splitter : Held) (over : ℕ)
+    (h : List ByteStep) (k : List EndEvent) : Type 0 where
   pub marks : end.marks ≡ as_kept (marks_of (config side x.terms) k)
+  pub near : HasNearNumbers (marks_of (config side x.terms) k)
   pub sent : AreSent (codec_of (config side x.terms) k) end.sent.items (sent_messages k)
   pub links : (l : ℕ) → has_link end.links l ≡ was_on l k
   pub last : end.last ≡ last_link k
@@ -42,12 +44,14 @@ pub record KeepsAlone (x : Setup) (steps : List ToldStep) (a : AuditAlone) (h : 
 
 -- without a rule the line goes on with a history, which is kept now; else it breaks this rule
 abbrev pub IsJudgedAlone : Setup → List ToldStep → ToldStep → List ByteStep → AuditAlone → AuditAlone → Option Rule → Type 0
-IsJudgedAlone x steps step h old new None = (new.side ≡ old.side) × ((s : ByteStep) × (MakesAlone x old.side h (clock steps) step s × KeepsAlone x (step ∷ steps) new (s ∷ h)))
+IsJudgedAlone x steps step h old new None =
+    (new.side ≡ old.side) × ((s : ByteStep) × (MakesAlone x old.side h (clock steps) step s × KeepsAlone x (step ∷ steps) new (s ∷ h)))
 IsJudgedAlone x steps step h old new (Some rule) = BreaksHistory x old.side steps step h rule
 
 -- so it is of each history that was kept
 abbrev pub JudgesAlone : AuditAlone → AuditAlone → ToldStep → Option Rule → Type 0
-JudgesAlone old new step verdict = (x : Setup) (steps : List ToldStep) (h : List ByteStep) → KeepsAlone x steps old h → IsJudgedAlone x steps step h old new verdict
+JudgesAlone old new step verdict = (x : Setup) (steps : List ToldStep) (h : List ByteStep) → KeepsAlone x steps old h
+    → IsJudgedAlone x steps step h old new verdict
 
 -- ---- what holds of a history that is kept
 
@@ -59,4 +63,5 @@ pub record KnownAlone (x : Setup) (side : Side) (now : ℕ) (h : List ByteStep) 
 
 -- so is each that is kept
 abbrev pub KeptAloneIsKnown : Type 0
-KeptAloneIsKnown = (x : Setup) (steps : List ToldStep) (a : AuditAlone) (h : List ByteStep) → KeepsAlone x steps a h → KnownAlone x a.side (clock steps) h
+KeptAloneIsKnown = (x : Setup) (steps : List ToldStep) (a : AuditAlone) (h : List ByteStep) → KeepsAlone x steps a h
+    → KnownAlone x a.side (clock steps) h

@@ -1,5 +1,5 @@
 -- What an auditor of one end alone keeps beside its marks, its messages and the names of its links: the bytes of its link that it hasn't dealt with.
-use Rattle.std.specs.Prelude.{◌≡◌, ◌⊎◌, ℕ, List, [], ◌++◌, length, Option, option_map, if◌then◌else◌}
+use Rattle.std.specs.Prelude.{◌≡◌, ◌⊎◌, ◌≤◌, ℕ, suc, true, false, List, [], ◌++◌, length, IfSome, option_map, if◌then◌else◌}
 use Rattle.hf_split.specs.declared.framing.Framing.{Framing}
 use Rattle.hf_split.specs.declared.framing.Framing.TheVariants.{Record}
 use Rattle.hf_split.specs.Cuts.{IsFaulty}
@@ -9,6 +9,7 @@ use Rattle.hd_delivery.specs.declared.vocabulary.Side.{Side}
 use Rattle.hd_delivery.specs.Histories.{as_told}
 use Rattle.hd_delivery.specs.Bytes.{Reading, Wire}
 use Rattle.hd_trace.specs.declared.marks.Marks.{Marks}
+use Rattle.hd_trace.specs.Marks.{place_by}
 
 -- marks in 64 bits. Only the next number can be more, on a connection that doesn't use it
 abbrev pub as_kept : Marks → Marks
@@ -29,3 +30,8 @@ pub record HoldsBytes (splitter : Held) (over : ℕ) (m : Marks) (bytes : List �
   pub bytes_are : bytes ≡ splitter.bytes ++ more
   pub count : over ≡ length more
   pub stuck : (more ≡ []) ⊎ IsFaulty splitter.framing splitter.most splitter.bytes
+
+-- Messages are numbered near to how many there are: what it reads next, where Sequences number that, and what it says next
+pub record HasNearNumbers (m : Marks) : Type 0 where
+  pub next : m.resumable ≡ true → m.three ≡ false → IfSome m.next (λ n. n ≤ suc m.processed)
+  pub said : IfSome m.said (λ n. n ≤ place_by m)

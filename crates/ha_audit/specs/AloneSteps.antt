@@ -1,5 +1,5 @@
 -- What a line that is judged makes of what is kept of one end alone, without a history.
-use Rattle.std.specs.Prelude.{◌≡◌, ◌≤◌, ◌<◌, ◌+◌, ◌==◌, ◌&&◌, not, ℕ, suc, true, false, List, length, drop, Option, Some, None, IfSome, option_map, if◌then◌else◌}
+use Rattle.std.specs.Prelude.{◌≡◌, ◌≤◌, ◌<◌, ◌+◌, ℕ, true, false, List, length, Some, IfSome, option_map}
 use Rattle.hf_split.specs.Cuts.{Spelled, BeginsWith}
 use Rattle.hf_split.specs.Held.{Held, after_pass}
 use Rattle.hm_message.specs.declared.message.Read.{Read}
@@ -9,10 +9,9 @@ use Rattle.hd_delivery.specs.declared.vocabulary.Side.{Side}
 use Rattle.hd_delivery.specs.declared.vocabulary.Side.TheVariants.{Client, Server}
 use Rattle.hd_delivery.specs.Numbers.{most_messages, most_framing, most_of_64_bits}
 use Rattle.hd_delivery.specs.Frames.{LinkFrame, Foreign, frame_of, count}
-use Rattle.hd_delivery.specs.Histories.{Config, HasFit, as_told}
+use Rattle.hd_delivery.specs.Histories.{Config, as_told}
 use Rattle.hd_delivery.specs.Bytes.{Wire, Reads}
 use Rattle.he_wire.specs.Wires.{IsHouseWire}
-use Rattle.sr_notation.specs.Words.{got_words}
 use Rattle.hd_trace.specs.declared.marks.Marks.{Marks}
 use Rattle.hd_trace.specs.Marks.{took}
 use Rattle.hd_trace.specs.ByMarks.{next_number_by, given_by}
@@ -81,7 +80,8 @@ FindsSome a l taken = (c : Config) (wire : Wire) → IsReady c wire a → IsFoun
 
 -- no frame gives anything
 abbrev pub FindsNone : AuditAlone → ℕ → Type 0
-FindsNone a l = (c : Config) (wire : Wire) (f : LinkFrame) (size : ℕ) (got : Got) → IsReady c wire a → Gives c wire a.end.marks l a.splitter.bytes f size got → ⊥
+FindsNone a l = (c : Config) (wire : Wire) (f : LinkFrame) (size : ℕ) (got : Got) → IsReady c wire a
+    → Gives c wire a.end.marks l a.splitter.bytes f size got → ⊥
 
 -- the frame with which the bytes held begin was dealt with
 pub record Passes (old new : AuditAlone) (taken : Taken) : Type 0 where

@@ -32,4 +32,5 @@ StandsAloneOver x side steps audit (Some broken) = BreaksOffAlone x side steps b
 
 -- so it is over each wire of this project
 abbrev pub StandsAlone : Head → Side → List ToldStep → ProgressAlone → Type 0
-StandsAlone head side steps progress = (wire : Wire) → IsHouseWire head.limits.frame wire → StandsAloneOver (setup_of head wire) side steps progress.audit progress.broken
+StandsAlone head side steps progress = (wire : Wire) → IsHouseWire head.limits.frame wire
+    → StandsAloneOver (setup_of head wire) side steps progress.audit progress.broken

@@ -1,17 +1,16 @@
 -- What an auditor keeps of the lines so far: how its state is that of the world which they tell.
-use Rattle.std.specs.Prelude.{◌≡◌, ◌≤◌, ℕ, suc, false, List, [], ◌∷◌, length, Option, Some, None}
+use Rattle.std.specs.Prelude.{◌≡◌, ℕ, List, ◌∷◌, length, Option, Some, None}
 use Rattle.hs_shake.specs.Requests.{IsVersion}
 use Rattle.hd_delivery.specs.declared.vocabulary.Side.{Side}
 use Rattle.hd_delivery.specs.declared.vocabulary.Side.TheVariants.{Client, Server}
 use Rattle.hd_delivery.specs.Bounds.{AreLimits}
-use Rattle.hd_delivery.specs.Histories.{Config, EndEvent, present_link, was_on, lent_frames, taken_count, sent_messages, codec_of}
-use Rattle.hd_delivery.specs.Worlds.{Terms, config, codec_at, version_at, Event}
-use Rattle.hd_delivery.specs.Bytes.{Wire, ByteStep, bytes_on, in_frames}
-use Rattle.hd_delivery.specs.Sides.{other, by, history}
+use Rattle.hd_delivery.specs.Histories.{EndEvent, present_link, was_on, lent_frames, taken_count, sent_messages, codec_of}
+use Rattle.hd_delivery.specs.Worlds.{config, codec_at, version_at, Event}
+use Rattle.hd_delivery.specs.Bytes.{ByteStep, bytes_on, in_frames}
+use Rattle.hd_delivery.specs.Sides.{by, history}
 use Rattle.he_wire.specs.Wires.{IsHouseWire}
 use Rattle.sr_notation.specs.Words.{got_words}
 use Rattle.hd_trace.specs.declared.trace.Rule.{Rule}
-use Rattle.hd_trace.specs.declared.trace.ToldStep.{ToldStep}
 use Rattle.hd_trace.specs.declared.trace.TraceLine.{TraceLine}
 use Rattle.hd_trace.specs.Traces.{Setup, clock, steps_of, MakesAt, TellWorld}
 use Rattle.hd_trace.specs.Breaking.{BreaksWorld}

@@ -1,6 +1,5 @@
 -- What an auditor keeps of one end, beside its marks: the messages that it was handed to send, and what it said on each link.
-use Rattle.std.specs.Prelude.{◌≡◌, ◌≤◌, ℕ, zero, suc, nat_le, Bool, List, [], length, take, map, flat_map, sum_by, slice_get, Option, Some, None, is_some, Vec, if◌then◌else◌}
-use Rattle.std.specs.declared.alloc.Global.{Global}
+use Rattle.std.specs.Prelude.{◌≡◌, ◌≤◌, ℕ, zero, suc, nat_le, Bool, List, [], length, take, map, flat_map, sum_by, slice_get, Option, Some, None, is_some, if◌then◌else◌}
 use Rattle.std.specs.Ordering.{nat_cmp}
 use Rattle.std.specs.BTreeMap.{BTreeMap, get}
 use Rattle.hm_message.specs.declared.message.Codec.{Codec}
@@ -10,7 +9,6 @@ use Rattle.hd_delivery.specs.Numbers.{most_messages}
 use Rattle.hd_delivery.specs.Frames.{LinkFrame}
 use Rattle.hd_delivery.specs.Histories.{Config}
 use Rattle.he_wire.specs.Wires.{AreSaid}
-use Rattle.hd_trace.specs.declared.owed.Owed.{Owed}
 use Rattle.hd_trace.specs.Owed.{owed_frame}
 use Rattle.ha_audit.specs.declared.auditor.said.SaidFrame.{SaidFrame}
 use Rattle.ha_audit.specs.declared.auditor.said.SaidOnLink.{SaidOnLink}

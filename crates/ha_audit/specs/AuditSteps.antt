@@ -1,7 +1,6 @@
 -- What a line that is judged makes of what is kept of its end, without a world.
 use Rattle.std.specs.Prelude.{◌≡◌, ◌⊎◌, ◌≤◌, ◌<◌, ◌+◌, ◌-◌, ◌==◌, ℕ, suc, Bool, true, false, List, [], ◌∷◌, ◌++◌, length, drop, slice_get, Option, Some, None, option_map, if◌then◌else◌}
 use Rattle.hd_facts.specs.Prefixes.{IsPrefix}
-use Rattle.hm_message.specs.declared.message.Codec.{Codec}
 use Rattle.hm_message.specs.declared.message.Message.{Message}
 use Rattle.hm_codec.specs.Frames.{frame_of, IsSaid}
 use Rattle.hd_delivery.specs.declared.vocabulary.Got.{Got}
@@ -15,7 +14,6 @@ use Rattle.hs_shake.specs.declared.shake.Shake.{Shake}
 use Rattle.he_wire.specs.Spelling.{spelling}
 use Rattle.sr_notation.specs.Words.{got_words}
 use Rattle.hd_trace.specs.declared.marks.Marks.{Marks}
-use Rattle.hd_trace.specs.declared.owed.Owed.{Owed}
 use Rattle.hd_trace.specs.declared.trace.Rule.{Rule}
 use Rattle.hd_trace.specs.declared.trace.Rule.TheVariants as rule
 use Rattle.hd_trace.specs.Marks.{attached, heard_something, lent, sent_one, took}

@@ -32,11 +32,7 @@ pub(crate) struct ProgressAlone {
 }
 
 /// What a trace of the lines of this end alone comes to.
-pub fn audit_alone(
-    alloc: Global,
-    side: Side,
-    trace: &Trace,
-) -> Result<VerdictAlone, AllocError>
+pub fn audit_alone(alloc: Global, side: Side, trace: &Trace) -> Result<VerdictAlone, AllocError>
     requires { trace.now.only ≡ Some side }
     ensures { IfOk result (IsAuditedAlone side trace.now) }
 {

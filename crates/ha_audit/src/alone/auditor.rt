@@ -83,7 +83,8 @@ impl AuditAlone {
 
     /// How many messages it was handed to send, and handed out.
     pub(crate) fn counts(&self) -> Counts
-        ensures { (x : Setup) (steps : List ToldStep) (h : List ByteStep) → KeepsAlone x steps self.now h → result ≡ counts_of (frames_alone x self.now.side h) }
+        ensures { (x : Setup) (steps : List ToldStep) (h : List ByteStep) → KeepsAlone x steps self.now h →
+            result ≡ counts_of (frames_alone x self.now.side h) }
     {
         Counts {
             sent: self.end.marks.sent,

@@ -1,6 +1,6 @@
 //! Bytes that an end alone is fed, whatever they are: no more than it may have unread.
 
-ghost use Rattle.std.specs.Prelude.{◌≡◌, ◌↔◌, IsTrue, length};
+ghost use Rattle.std.specs.Prelude.{◌↔◌, IsTrue};
 ghost use Rattle.hd_trace.specs.declared.trace.ToldStep.TheVariants as tells;
 ghost use Rattle.ha_audit.specs.AloneKeeps.{JudgesAlone};
 ghost use Rattle.ha_audit.specs.AloneSteps.{HasRoomForBytes};

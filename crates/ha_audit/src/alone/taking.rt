@@ -1,25 +1,21 @@
 //! Frames that an end alone deals with: each is read from the bytes that it was fed.
 
-ghost use Rattle.std.specs.Prelude.{◌≡◌, ◌≤◌, ◌↔◌, ℕ, suc, Bool, true, false, Option, Some, None, IsTrue, IfOk, OnOk, IfSome, IfNone, option_map, if◌then◌else◌};
-ghost use Rattle.hf_split.specs.Held.{Held};
-ghost use Rattle.hm_message.specs.Message.{Fits, is_sequenced};
+ghost use Rattle.std.specs.Prelude.{◌≡◌, ◌≤◌, ◌↔◌, ℕ, suc, true, false, Option, Some, None, IsTrue, IfOk, OnOk, IfSome, IfNone, option_map, if◌then◌else◌};
+ghost use Rattle.hm_message.specs.Message.{Fits};
 ghost use Rattle.hm_message.specs.Reads.{MessageIs};
 ghost use Rattle.hd_delivery.specs.declared.vocabulary.Got.TheVariants as gives;
 ghost use Rattle.hd_delivery.specs.declared.vocabulary.Got.TheVariants.{Shaken, Skipped};
 ghost use Rattle.hd_delivery.specs.declared.vocabulary.Why.TheVariants.{NotUsed};
-ghost use Rattle.hd_delivery.specs.Bytes.{Wire, Reads};
 ghost use Rattle.hd_delivery.specs.Frames.{LinkFrame, count, frame_of, one_more, received_of};
-ghost use Rattle.hd_delivery.specs.Histories.{Config, HasFit, as_told, can_keep};
+ghost use Rattle.hd_delivery.specs.Histories.{HasFit, as_told};
 ghost use Rattle.hd_delivery.specs.Numbers.{most_messages};
 ghost use Rattle.he_wire.specs.Gives.{Begins};
-ghost use Rattle.he_wire.specs.Wires.{IsHouseWire};
 ghost use Rattle.sr_notation.specs.Words.{got_words};
 ghost use Rattle.hd_trace.specs.declared.trace.ToldStep.TheVariants as tells;
 ghost use Rattle.hd_trace.specs.Marks.{took};
-ghost use Rattle.hd_trace.specs.ByMarks.{ack_given, frame_given, greets_by, message_given, next_number_by, sequence_given};
+ghost use Rattle.hd_trace.specs.ByMarks.{ack_given, frame_given, message_given, next_number_by, sequence_given};
 ghost use Rattle.ha_audit.specs.AloneKeeps.{JudgesAlone};
-ghost use Rattle.ha_audit.specs.AloneState.{framing_by, reading_by};
-ghost use Rattle.ha_audit.specs.AloneSteps.{FindsNone, FindsSome, HasNumber, Passes, frame_read};
+ghost use Rattle.ha_audit.specs.AloneSteps.{FindsNone, FindsSome, Passes, frame_read};
 
 use super::auditor::AuditAlone;
 use super::laws::kept_alone_is_known;
@@ -41,7 +37,6 @@ pub(crate) struct Taken {
 }
 
 impl AuditAlone {
-    /// A connection that is kept, on which more messages were read than 64 bits count, is answered as out of memory.
     pub(crate) fn take(&mut self, alloc: Global, words: &Text) -> Result<Option<Rule>, AllocError>
         ensures { IfOk result (JudgesAlone self.old self.new (tells.Take words.now)) }
     {
@@ -82,15 +77,11 @@ impl AuditAlone {
     /// What the next frame gives, if one was fed and it is no fault.
     fn next(&mut self, alloc: Global, link: u64) -> Result<Option<Taken>, AllocError>
         ensures rest { OnOk result (self.new ≡ record self.old { scratch = self.new.scratch }) }
-        ensures number { OnOk result (HasNumber self.old.end.marks) }
         ensures found { IfOk result (λ r. IfSome r (FindsSome self.old link)) }
         ensures begins { IfOk result (λ r. IfSome r (λ _. Begins self.old.splitter)) }
         ensures fits { IfOk result (λ r. IfSome r (λ taken. HasFit taken.got)) }
         ensures none { IfOk result (λ r. IfNone r (FindsNone self.old link)) }
     {
-        if !has_number(self.end.marks) {
-            return Err(AllocError);
-        }
         if self.end.marks.shaken {
             return self.next_message(alloc, link);
         }
@@ -151,19 +142,6 @@ fn shaken(shake: Shake) -> Taken
     Taken {
         next: Some(1),
         got: Got::Shaken { codec, version },
-    }
-}
-
-/// Whether the number of the next message is told in 64 bits, where it is used.
-fn has_number(marks: Marks) -> bool
-    ensures { IsTrue result → HasNumber marks }
-{
-    if !marks.resumable || marks.three {
-        return true;
-    }
-    match marks.next {
-        None => true,
-        Some(number) => number < u64::MAX,
     }
 }
 

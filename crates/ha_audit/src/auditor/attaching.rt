@@ -86,12 +86,7 @@ impl AuditedEnd {
     }
 
     /// It stands on the new link.
-    pub(crate) fn attach(
-        &mut self,
-        alloc: Global,
-        link: u64,
-        now: u64,
-    ) -> Result<(), AllocError>
+    pub(crate) fn attach(&mut self, alloc: Global, link: u64, now: u64) -> Result<(), AllocError>
         ensures { OnOk result (Attaches self.old self.new link now) }
     {
         self.open(alloc, link)?;

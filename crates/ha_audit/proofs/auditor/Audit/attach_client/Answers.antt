@@ -1,5 +1,5 @@
-use Rattle.std.proofs.Common.{inl, inr, refl, sym, ap, ◌∙◌, subst, arith, true, false, ◌≡◌}
-use Rattle.hd_delivery.specs.declared.vocabulary.Side.TheVariants.{Client, Server}
+use Rattle.std.proofs.Common.{inl, inr, refl, sym, ◌∙◌}
+use Rattle.hd_delivery.specs.declared.vocabulary.Side.TheVariants.{Client}
 use Rattle.ha_audit.specs.declared.auditor.Audit.{Audit}
 use Rattle.ha_audit.proofs.AuditLinks.{may_not, attach_broken, attach_judged}
 use Rattle.ha_audit.proofs.auditor.Audit.attach_client.Goals as goal

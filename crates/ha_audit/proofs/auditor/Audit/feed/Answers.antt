@@ -1,5 +1,4 @@
-use Rattle.std.proofs.Common.{refl, sym, ap, ◌∙◌, subst, arith, ◌≡◌, ◌+◌}
-use Rattle.hd_delivery.specs.Numbers.{most_framing}
+use Rattle.std.proofs.Common.{refl, sym, ap, subst, arith}
 use Rattle.hd_delivery.specs.declared.vocabulary.Side.TheVariants.{Client, Server}
 use Rattle.hd_trace.specs.declared.trace.ToldStep.TheVariants as tells
 use Rattle.hd_trace.specs.Recording.{line_of}

@@ -1,17 +1,16 @@
-use Rattle.std.proofs.Common.{refl, sym, ap, ◌∙◌, subst, IfOk, IfSome, ◌≡◌, ◌≤◌, ◌<◌, length}
+use Rattle.std.proofs.Common.{refl, sym, subst, IfOk, ◌≡◌, length}
 use Rattle.hd_delivery.specs.declared.vocabulary.Side.TheVariants.{Client, Server}
 use Rattle.hd_delivery.specs.Histories.{Config}
-use Rattle.hd_delivery.specs.Numbers.{most_messages, most_of_64_bits}
 use Rattle.hd_delivery.specs.Worlds.{config}
 use Rattle.hd_trace.specs.declared.trace.ToldStep.TheVariants as tells
 use Rattle.hd_trace.specs.Owed.{HasNextNumbers}
 use Rattle.hd_trace.specs.Recording.{line_of}
 use Rattle.ha_audit.specs.declared.auditor.Audit.{Audit}
 use Rattle.ha_audit.specs.AuditKeeps.{Judges}
-use Rattle.ha_audit.specs.AuditSteps.{IsBegunLike, LendsSo, TakesSo}
+use Rattle.ha_audit.specs.AuditSteps.{LendsSo}
 use Rattle.ha_audit.proofs.AuditAnswers.{if_ok}
-use Rattle.ha_audit.proofs.AuditBegun.{begun_like, sent_many, processed_few}
-use Rattle.ha_audit.proofs.AuditNumbers.{next_numbers, next_small}
+use Rattle.ha_audit.proofs.AuditBegun.{sent_many}
+use Rattle.ha_audit.proofs.AuditNumbers.{next_numbers}
 use Rattle.ha_audit.proofs.AuditFrames.{lend_judged}
 use Rattle.ha_audit.proofs.auditor.Audit.lend.Goals as goal
 

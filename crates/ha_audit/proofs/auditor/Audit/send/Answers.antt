@@ -1,6 +1,5 @@
-use Rattle.std.proofs.Common.{refl, sym, ap, ◌∙◌, subst, IfOk, ◌≡◌, length}
+use Rattle.std.proofs.Common.{refl, sym, subst, IfOk}
 use Rattle.hd_delivery.specs.declared.vocabulary.Side.TheVariants.{Client, Server}
-use Rattle.hd_delivery.specs.Worlds.{config}
 use Rattle.hd_trace.specs.declared.trace.ToldStep.TheVariants as tells
 use Rattle.hd_trace.specs.Recording.{line_of}
 use Rattle.ha_audit.specs.declared.auditor.Audit.{Audit}

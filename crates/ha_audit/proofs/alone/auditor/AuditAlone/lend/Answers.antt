@@ -12,6 +12,6 @@ returns c =
     let new : AuditAlone = record a { end = c.lend.new.self; control = c.lend.new.control } in
     if_ok (LendsAlone a new c.args.bytes.now) (JudgesAlone a new (tells.Lend c.args.bytes.now)) c.lend.result
     (λ v s. lend_judged c.marks_follow.ensures c.due_is_marked.ensures c.kept_alone_is_known.ensures c.unread_stays.ensures a new c.args.bytes.now v
-    (c.is_counted.ensures c.if-not-is_counted.false) s
+    s
     (record { begun = record { head = refl; side = refl; clock = refl }; splitter = refl; over = refl }))
     c.lend.ensures

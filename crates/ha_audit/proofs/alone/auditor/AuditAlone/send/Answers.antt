@@ -12,6 +12,7 @@ returns c =
     let a = c.args.self.now in
     let new : AuditAlone = record a { end = c.send.new.self } in
     if_ok (SendsSo a.end c.send.new.self a.head.limits c.args.message) (JudgesAlone a new (tells.Send c.args.message)) c.send.result
-    (λ v s. send_judged c.marks_follow.ensures c.room_by_numbers.ensures c.kept_alone_is_known.ensures c.unread_stays.ensures a new c.args.message v c.requires s
+    (λ v s. send_judged c.marks_follow.ensures c.room_by_numbers.ensures c.kept_alone_is_known.ensures c.unread_stays.ensures
+    a new c.args.message v c.requires s
     (record { begun = record { head = refl; side = refl; clock = refl }; splitter = refl; over = refl }))
     c.send.ensures

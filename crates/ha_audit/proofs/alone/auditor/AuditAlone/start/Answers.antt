@@ -10,6 +10,7 @@ returns-clause-kept c = λ x begun. record {
   clock_is = refl;
   kept = record {
     marks = c.start-end.ensures.marks (config c.args.side x.terms) (begun.codec c.args.side);
+    near = record { next = λ r t. tt; said = tt };
     sent = sent_none _ c.start-end.result.sent.items c.start-end.ensures.sent;
     links = λ l. ap is_some (c.start-end.ensures.links l);
     last = c.start-end.ensures.last;

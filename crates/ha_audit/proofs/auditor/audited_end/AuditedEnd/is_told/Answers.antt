@@ -2,9 +2,7 @@ use Rattle.std.proofs.Common.{◌≡◌, ◌++◌, ℕ, suc, Bool, List, Some, a
 use Rattle.std.proofs.lemmas.Bool.Decides.{Decides-eqb}
 use Rattle.std.proofs.lemmas.Slice.Eq.{slice_eq-Decides}
 use Rattle.hm_message.specs.declared.message.Message.{Message}
-use Rattle.hd_delivery.specs.declared.vocabulary.Got.{Got}
 use Rattle.hd_delivery.specs.Histories.{Config}
-use Rattle.hd_delivery.specs.Numbers.{most_messages}
 use Rattle.sr_notation.specs.Words.{got_words}
 use Rattle.hd_trace.specs.declared.given.Given.TheVariants as outcome
 use Rattle.hd_trace.specs.Given.{given_got}

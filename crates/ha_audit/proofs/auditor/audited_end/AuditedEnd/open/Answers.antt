@@ -1,4 +1,3 @@
-use Rattle.std.proofs.Common.{refl}
 use Rattle.ha_audit.proofs.AuditNames.{put}
 use Rattle.ha_audit.proofs.auditor.audited_end.AuditedEnd.open.Goals as goal
 

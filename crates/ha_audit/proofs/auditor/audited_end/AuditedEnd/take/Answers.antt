@@ -1,15 +1,10 @@
-use Rattle.std.proofs.Common.{◌≡◌, ◌↔◌, ℕ, suc, Some, IsTrue, sym, ap₂, slice_get, arith}
-use Rattle.hm_message.specs.declared.message.Message.{Message}
-use Rattle.hd_delivery.specs.Histories.{Config}
-use Rattle.sr_notation.specs.Words.{got_words}
-use Rattle.hd_trace.specs.declared.given.Given.TheVariants as outcome
-use Rattle.hd_trace.specs.Given.{given_got}
+use Rattle.std.proofs.Common.{◌≡◌, suc, sym, ap₂, slice_get, arith}
 use Rattle.ha_audit.specs.declared.auditor.audited_end.AuditedEnd.{AuditedEnd}
 use Rattle.ha_audit.specs.AuditState.{frames_of, said_on}
-use Rattle.ha_audit.specs.AuditSteps.{IsBegunLike, IsOpenAt}
+use Rattle.ha_audit.specs.AuditSteps.{IsOpenAt}
 use Rattle.ha_audit.proofs.AuditSent.{message_at}
 use Rattle.ha_audit.proofs.AuditTaken.{whole_is}
-use Rattle.ha_audit.proofs.AuditTaking.{none_given, none_next, other_words, same_words}
+use Rattle.ha_audit.proofs.AuditTaking.{none_given, other_words, same_words}
 use Rattle.ha_audit.proofs.auditor.audited_end.AuditedEnd.take.Goals as goal
 
 pub returns-in_default-gives : goal.returns-in_default-gives
