@@ -1,5 +1,6 @@
 -- Lanes that are calm: a read that gives nothing leaves them as they are, and is their turn.
-use Rattle.std.proofs.Common.{◌≡◌, ◌<◌, ◌++◌, ◌∷◌, [], ◌&&◌, ◌||◌, ◌⊎◌, if◌then◌else◌, ℕ, List, Bool, true, false, not, Option, None, Some, Result, Ok, Err, IfOk, option_map, set, get_or, refl, sym, ap, ◌∙◌, subst, inl, inr, arith, length, take}
+use Rattle.std.proofs.Common.{◌≡◌, ◌<◌, ◌≤◌, ◌==◌, ◌++◌, ◌∷◌, [], ◌&&◌, ◌||◌, ◌⊎◌, if◌then◌else◌, ℕ, List, Bool, true, false, not, Option, None, Some, Result, Ok, Err, IfOk, option_map, set, get_or, refl, sym, ap, ◌∙◌, subst, inl, inr, arith, length, take}
+use Rattle.std.proofs.lemmas.Bool.{ne_eqb}
 use Rattle.std.proofs.lemmas.List.{append-nil, get_or_default}
 use Rattle.hh_http.specs.Texts.{continue_text}
 use Rattle.hw_door.specs.declared.heard.Event.{Event}
@@ -25,7 +26,7 @@ use Rattle.hw_net.specs.WebSocketState.{WebSocketState, HearsWebSocket, ReadsInt
 use Rattle.hw_net.specs.Trace.{Chooses, Reads, Gives, Tells}
 use Rattle.hw_net.specs.Turn.{Hears, Settles, LosesAt, Drains, Falls, TurnsLive, TurnsByFullness, TurnsAt, Listens}
 use Rattle.hw_net.proofs.HttpFacts.{still-hears as http-still-hears}
-use Rattle.hw_net.proofs.WebSocketFacts.{room-wants_read, input-of}
+use Rattle.hw_net.proofs.WebSocketFacts.{filled, full-of, room-wants_read, input-of}
 use Rattle.hw_net.proofs.Telling.{tells-none}
 use Rattle.hw_net.proofs.Walking.{silent}
 
@@ -41,11 +42,12 @@ last_read_was_full wire before answer got wants_read h =
 
 -- bytes came, and one message was heard, or none
 pub hears-after : (wire : ℕ) (before mid after : WebSocketState) (piece : List ℕ) (answer : Answer) (heard : Input) → before.wants_read ≡ true → before.lost_bytes ≡ false → Reads wire PIECE answer (Some piece) →
-    Feeds before.lane piece mid.lane → mid.lost_bytes ≡ before.lost_bytes → Finds mid after heard → after.lost_bytes ≡ before.lost_bytes → HearsWebSocket wire before after (answer ∷ []) heard
-hears-after wire before mid after piece answer heard wants_read had_all h fed kept f same =
+    Feeds before.lane piece mid.lane → mid.lost_bytes ≡ before.lost_bytes → mid.last_read_was_full ≡ (length piece == PIECE) → Finds mid after heard → after.lost_bytes ≡ before.lost_bytes → HearsWebSocket wire before after (answer ∷ []) heard
+hears-after wire before mid after piece answer heard wants_read had_all h fed kept full f same =
     let read = last_read_was_full wire before answer (Some piece) wants_read h in
-    let into : ReadsInto wire before mid (answer ∷ []) true = record { got = Some piece; read = read; asked = λ _. omega arith; whole = refl; fed = fed; lost_bytes = kept } in
-    record { got = Some piece; read = read; is_input = input-of wire before mid after (answer ∷ []) heard into f; lost_bytes = same; breaks = λ e. absurd (cc (sym had_all ∙ e)) }
+    let filled = full ∙ ap (λ n. length piece == n) (sym (room-wants_read before wants_read)) in
+    let into : ReadsInto wire before mid (answer ∷ []) true = record { got = Some piece; read = read; asked = λ _. omega arith; whole = refl; fed = fed; lost_bytes = kept; full = filled } in
+    record { got = Some piece; read = read; is_input = input-of wire before mid after (answer ∷ []) heard into f; lost_bytes = same; full = full-of mid after heard f ∙ filled; breaks = λ e. absurd (cc (sym had_all ∙ e)) }
 
 -- the wire broke
 pub breaks-after : (wire : ℕ) (before : WebSocketState) (answer : Answer) → IsCalm before → Reads wire PIECE answer None → HearsWebSocket wire before before (answer ∷ []) input.Broken
@@ -54,6 +56,7 @@ breaks-after wire before answer calm h = record {
   read = last_read_was_full wire before answer None calm.wants_read h;
   is_input = (inl (refl, λ there. calm.waiting), refl);
   lost_bytes = refl;
+  full = refl;
   breaks = λ e. refl;
 }
 
@@ -61,7 +64,7 @@ breaks-after wire before answer calm h = record {
 pub still-hears : (wire : ℕ) (websocket_state : WebSocketState) (answer : Answer) → IsCalm websocket_state → Reads wire PIECE answer (Some []) → HearsWebSocket wire websocket_state websocket_state (answer ∷ []) input.Nothing
 still-hears wire websocket_state answer calm h =
     let takes : Takes websocket_state.lane websocket_state.lane read.NotYet = inr (calm.there, ([], websocket_state.lane, refl, calm.waiting)) in
-    hears-after wire websocket_state websocket_state websocket_state [] answer input.Nothing calm.wants_read calm.whole h (fed-nothing websocket_state.lane) refl (takes, calm.wants_read) refl
+    hears-after wire websocket_state websocket_state websocket_state [] answer input.Nothing calm.wants_read calm.whole h (fed-nothing websocket_state.lane) refl (calm.last_read_was_full ∙ sym (ne_eqb 0 PIECE (λ e. omega (arith, e)))) (takes, calm.wants_read, refl) refl
 
 -- ---- a lane
 
@@ -172,10 +175,12 @@ calm-listens now lane first buf in_time h =
 
 -- a message is heard after bytes that came
 pub looked : {E : Type 0} (r : Result Input E) (before mid after : WebSocketState) (count : ℕ) (buf : List ℕ) (got : Option ℕ) → got ≡ Some count → Feeds before.lane (take count buf) mid.lane → IfOk r (Finds mid after) → (mid.lost_bytes ≡ before.lost_bytes) × (after.lost_bytes ≡ before.lost_bytes) →
+    count ≤ PIECE → length buf ≡ PIECE → mid.last_read_was_full ≡ (count == length buf) →
     IfOk r (λ heard. (wire : ℕ) (answer : Answer) → IsCalm before → Reads wire PIECE answer (option_map (λ n. take n buf) got) → HearsWebSocket wire before after (answer ∷ []) heard)
-looked (Ok heard) before mid after count buf got e fed f same = λ wire answer calm h.
-    hears-after wire before mid after (take count buf) answer heard calm.wants_read calm.whole (subst (λ (o : Option ℕ). Reads wire PIECE answer (option_map (λ n. take n buf) o)) e h) fed same.0 f same.1
-looked (Err why) before mid after count buf got e fed f same = f
+looked (Ok heard) before mid after count buf got e fed f same small long full = λ wire answer calm h.
+    hears-after wire before mid after (take count buf) answer heard calm.wants_read calm.whole (subst (λ (o : Option ℕ). Reads wire PIECE answer (option_map (λ n. take n buf) o)) e h) fed same.0
+    (filled count buf mid.last_read_was_full (omega (arith, small, long)) full ∙ ap (λ n. length (take count buf) == n) long) f same.1
+looked (Err why) before mid after count buf got e fed f same small long full = f
 
 -- nothing more is told after a look that read the wire
 pub after-first_look : {E : Type 0} (r : Result Input E) (trace : Option (List Answer)) (before : Lane) (protocol : Protocol) (buf : List ℕ) (first_look : FirstRead) (got : Option ℕ) → first_look ≡ Read got →

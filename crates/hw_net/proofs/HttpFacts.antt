@@ -1,5 +1,7 @@
 -- How a look and a read come to one turn of a lane of requests.
-use Rattle.std.proofs.Common.{◌||◌, ◌&&◌, not, ◌==◌, ◌+◌, ◌≡◌, ◌≤◌, ℕ, List, [], ◌++◌, ◌∷◌, true, false, Option, None, Some, refl, sym, ap, subst, ◌∙◌, arith, ◌⊎◌, inl, inr, is_some, IfOk, Result, Ok, Err, ◌<◌, length, min, take, option_map, Bool}
+use Rattle.std.proofs.Common.{◌||◌, ◌&&◌, not, ◌==◌, ◌+◌, ◌≡◌, ◌≤◌, ℕ, List, [], ◌++◌, ◌∷◌, true, false, Option, None, Some, refl, sym, ap, subst, ◌∙◌, arith, ◌⊎◌, inl, inr, is_some, IfOk, Result, Ok, Err, ◌<◌, length, min, take, option_map, Bool, length-take}
+use Rattle.std.specs.Prelude.{nat_lt}
+use Rattle.std.proofs.lemmas.Bool.{lt-ltb, ne_eqb}
 use Rattle.std.proofs.lemmas.List.{append-nil, length-append}
 use Rattle.hw_lanes.specs.declared.http.Request.{Request}
 use Rattle.hw_lanes.specs.declared.http.Refusal.{Refusal}
@@ -12,7 +14,7 @@ use Rattle.hw_net.specs.declared.input.Input.{Input}
 use Rattle.hw_net.specs.declared.input.Input.TheVariants as input
 use Rattle.hw_net.specs.Input.{is_nothing}
 use Rattle.hw_net.specs.declared.limits.TheConstants.{PIECE}
-use Rattle.hw_net.specs.Trace.{bytes_of, Gives, IsAsked, Reads, Tells}
+use Rattle.hw_net.specs.Trace.{bytes_of, Gives, IsAsked, Reads, Tells, is_full_after}
 use Rattle.hw_net.specs.HttpState.{HttpStateView, IsHttpState, HearsHttp, ReadsInto, Finds, IsCalm, IsInput, is_awake, requests_of, room_of, AwaitsAfter, IsWaiting}
 use Rattle.hw_net.proofs.Shares.{equal}
 
@@ -32,6 +34,16 @@ continued-of before after input.Upgraded f = absurd f
 continued-of before after (input.Message bytes) f = absurd f
 continued-of before after input.Broken f = absurd f
 continued-of before after input.Gone f = absurd f
+
+full-of : (before after : HttpStateView) (heard : Input) → Finds before after heard → after.last_read_was_full ≡ before.last_read_was_full
+full-of before after input.Nothing f = f.6
+full-of before after (input.Request request) f = f.3
+full-of before after (input.Refused refusal) f = f.5
+full-of before after (input.Response status body) f = absurd f
+full-of before after input.Upgraded f = absurd f
+full-of before after (input.Message bytes) f = absurd f
+full-of before after input.Broken f = absurd f
+full-of before after input.Gone f = absurd f
 
 -- a lane that was refused stays so
 pub refused-state : (lane next : Lane) (busy has_unparsed : Bool) (refusal : Refusal) → IsHttpState lane busy has_unparsed → busy ≡ false → has_unparsed ≡ true →
@@ -122,7 +134,7 @@ none-found before next is free answers repeats = go lane.spent refl where
       let held : next.held ≡ lane.held = ap (λ (l : Lane). l.held) a.0 in
       let unspent : next.spent ≡ None = ap (λ (l : Lane). l.spent) a.0 ∙ e in
       let waiting = none-waits lane next a.1 held in
-      (held, refl, λ b. waiting, inr (waiting-room next unspent waiting, awaits a.1), λ b. absurd (cc (sym free ∙ b)), refl) where
+      (held, refl, λ b. waiting, inr (waiting-room next unspent waiting, awaits a.1), λ b. absurd (cc (sym free ∙ b)), refl, refl) where
         awaits : (WaitsForHead request_grammar lane.held × (next.want ≡ 0) × (next.due ≡ lane.due)) ⊎ ((expects : Bool) × WaitsForBody request_grammar lane.held next.want expects × (next.due ≡ due_after lane.want expects lane.due)) → AwaitsAfter before (none-after before next)
         awaits (inl w) = inl (w.0, or-none before.awaits_continue next.due (w.2 ∙ is.taken))
         awaits (inr w) = inr (w.0, w.1, ap (λ b. before.awaits_continue || b) (w.2 ∙ ap (λ b. due_after lane.want w.0 b) is.taken))
@@ -149,6 +161,7 @@ hears-found wire before after heard f adds e =
       asks = λ bytes requests a. rw (append-nil bytes) (adds bytes requests a);
       is_input = input-found before after heard f e;
       continued = continued-of before after heard f;
+      full = full-of before after heard f;
     }
 
 -- a lane that holds less than it may has room, whatever room it had before
@@ -187,6 +200,7 @@ hears-later wire before mid after answers heard f adds h =
       asks = λ bytes requests a. h.asks bytes requests (rw (append-nil requests) at (adds bytes requests a));
       is_input = input-later before mid after answers h.got heard f h.is_input;
       continued = h.continued ∙ f.5;
+      full = h.full ∙ ap (is_full_after (room_of h.mid) answers h.got) f.6;
     }
 
 -- the wire broke
@@ -201,6 +215,7 @@ hears-broken wire before after answers r =
       asks = λ bytes requests a. rw (append-nil requests) (r.asks bytes requests a);
       is_input = (none-of r.got r.whole, r.busy);
       continued = r.continued;
+      full = r.full;
     }
 
 input-looked : (wire : ℕ) (before mid after : HttpStateView) (answers : List Answer) (heard : Input) → (r : ReadsInto wire before mid answers true) → Finds mid after heard →
@@ -227,6 +242,7 @@ hears-looked wire before mid after answers heard r f adds =
       asks = λ bytes requests a. adds (bytes ++ bytes_of r.got) requests (r.asks bytes requests a);
       is_input = input-looked wire before mid after answers heard r f;
       continued = continued-of mid after heard f ∙ r.continued;
+      full = full-of mid after heard f ∙ r.full;
     }
 
 pub nothing-of : (heard : Input) → is_nothing heard ≡ true → heard ≡ input.Nothing
@@ -275,6 +291,22 @@ calm-gives wire before answer got calm h =
     let room = calm.room in
     (omega (arith, room), subst (λ n. Reads wire n answer got) (sym room) h)
 
+-- no bytes fill no room that there is
+pub none-fills : (lane : Lane) → 1 ≤ room_of lane → (0 == room_of lane) ≡ false
+none-fills lane some = ne_eqb 0 (room_of lane) (λ e. omega (arith, e, some))
+
+-- where something could be read, the last read didn't fill its room, unless the lane is awake
+pub unfilled : (http_state : HttpStateView) → is_awake http_state ≡ false → 1 ≤ room_of http_state.lane → http_state.last_read_was_full ≡ false
+unfilled http_state asleep some = by (http_state.has_unparsed && not http_state.busy) http_state.last_read_was_full (nat_lt 0 (room_of http_state.lane)) asleep (lt-ltb 0 (room_of http_state.lane) some) where
+  by : (a full room : Bool) → (a || (full && room)) ≡ false → room ≡ true → full ≡ false
+  by true full room e f = cc e
+  by false true true e f = cc e
+  by false true false e f = cc f
+  by false false room e f = refl
+
+calm-is-empty : (http_state : HttpStateView) → IsCalm http_state → http_state.last_read_was_full ≡ false
+calm-is-empty http_state calm = unfilled http_state calm.asleep (omega (arith, calm.room))
+
 -- nothing came
 pub still-hears : (wire : ℕ) (http_state : HttpStateView) (answer : Answer) → IsCalm http_state → Reads wire PIECE answer (Some []) → HearsHttp wire http_state http_state (answer ∷ []) input.Nothing
 still-hears wire http_state answer calm h =
@@ -287,6 +319,7 @@ still-hears wire http_state answer calm h =
       asks = λ bytes requests a. rw (append-nil bytes) (rw (append-nil requests) a);
       is_input = (refl, λ had. omega arith, refl, calm.waiting);
       continued = refl;
+      full = calm-is-empty http_state calm ∙ sym (none-fills http_state.lane (omega (arith, calm.room)));
     }
 
 -- what a read gives of which no more is taken than there is room for
@@ -301,11 +334,16 @@ takes-all before mid count taken buf small is calm takes =
     let whole : taken ≡ count = omega (arith, is, room, small) in
     subst (λ n. TakesUpTo before mid n buf) whole takes
 
+all-taken : (count taken room : ℕ) (buf : List ℕ) → room ≡ PIECE → count ≤ PIECE → taken ≡ min count room → length buf ≡ PIECE → taken ≡ length (take count buf)
+all-taken count taken room buf whole small is long =
+    let size : length (take count buf) ≡ min count (length buf) = length-take count buf in
+    omega (arith, whole, small, is, long, size)
+
 -- bytes came, and then what is held is looked at
 pub hears-after : {E : Type 0} (r : Result Input E) (before mid after : HttpStateView) (count taken : ℕ) (buf : List ℕ) (got : Option ℕ) → got ≡ Some count → count ≤ PIECE → taken ≡ min count (room_of before.lane) →
-    (mid.busy ≡ before.busy) × (mid.continued ≡ before.continued) → TakesUpTo before mid taken buf → IfOk r (λ heard. Finds mid after heard) → IfOk r (λ heard. Adds mid after heard) →
+    (mid.busy ≡ before.busy) × (mid.continued ≡ before.continued) × (mid.last_read_was_full ≡ (taken == room_of before.lane)) → length buf ≡ PIECE → TakesUpTo before mid taken buf → IfOk r (λ heard. Finds mid after heard) → IfOk r (λ heard. Adds mid after heard) →
     IfOk r (λ heard. (wire : ℕ) (answer : Answer) → IsCalm before → Reads wire PIECE answer (option_map (λ n. take n buf) got) → HearsHttp wire before after (answer ∷ []) heard)
-hears-after (Ok heard) before mid after count taken buf got e small is same takes f adds = λ wire answer calm h.
+hears-after (Ok heard) before mid after count taken buf got e small is same long takes f adds = λ wire answer calm h.
     let read : Reads wire PIECE answer (Some (take count buf)) = subst (λ (o : Option ℕ). Reads wire PIECE answer (option_map (λ n. take n buf) o)) e h in
     let into : ReadsInto wire before mid (answer ∷ []) true = record {
       got = Some (take count buf);
@@ -314,7 +352,8 @@ hears-after (Ok heard) before mid after count taken buf got e small is same take
       whole = refl;
       busy = same.0;
       continued = same.1;
+      full = same.2 ∙ ap (λ n. n == room_of before.lane) (all-taken count taken (room_of before.lane) buf calm.room small is long);
       asks = takes-all before mid count taken buf small is calm takes;
     } in
     hears-looked wire before mid after (answer ∷ []) heard into f adds
-hears-after (Err why) before mid after count taken buf got e small is same takes f adds = f
+hears-after (Err why) before mid after count taken buf got e small is same long takes f adds = f

@@ -1,5 +1,6 @@
 -- How a read and a look come to one turn of a lane that awaits its response.
-use Rattle.std.proofs.Common.{◌≡◌, ◌||◌, ◌&&◌, ℕ, zero, suc, List, [], ◌∷◌, ◌++◌, Bool, true, false, not, Option, None, Some, Result, Ok, Err, IfOk, refl, sym, ap, ◌∙◌, subst, inl, inr, arith}
+use Rattle.std.proofs.Common.{◌≡◌, ◌≤◌, ◌==◌, ◌||◌, ◌&&◌, ℕ, zero, suc, List, [], ◌∷◌, ◌++◌, Bool, true, false, not, Option, None, Some, Result, Ok, Err, IfOk, refl, sym, ap, ◌∙◌, subst, inl, inr, arith}
+use Rattle.std.proofs.lemmas.Bool.{lt-ltb, ne_eqb}
 use Rattle.std.proofs.lemmas.List.{append-nil}
 use Rattle.std.specs.Prelude.{nat_lt}
 use Rattle.hh_http.specs.Lane.{Lane}
@@ -31,10 +32,10 @@ response-found before next response heard is free answers c =
       go input.Nothing c b = absurd c
       go (input.Request request) c b = absurd c
       go (input.Refused refusal) c b = absurd c
-      go (input.Response status body) c b = (refl, free, refl, refl, (response, b, c))
-      go input.Upgraded c b = (refl, free, refl, refl, (response, b, c))
+      go (input.Response status body) c b = (refl, free, refl, refl, (response, b, c), refl)
+      go input.Upgraded c b = (refl, free, refl, refl, (response, b, c), refl)
       go (input.Message bytes) c b = absurd c
-      go input.Broken c b = (refl, free, refl, refl, inr (next.held, (response, b, c)))
+      go input.Broken c b = (refl, free, refl, refl, inr (next.held, (response, b, c)), refl)
       go input.Gone c b = absurd c
 
 -- ---- a turn
@@ -58,6 +59,16 @@ upgrade-of before after input.Upgraded f = f.0
 upgrade-of before after (input.Message bytes) f = f.0
 upgrade-of before after input.Broken f = f.0
 upgrade-of before after input.Gone f = f.0
+
+full-of : (before after : ResponseStateView) (heard : Input) → Finds before after heard → after.last_read_was_full ≡ before.last_read_was_full
+full-of before after input.Nothing f = f.5
+full-of before after (input.Request request) f = f.5
+full-of before after (input.Refused refusal) f = f.5
+full-of before after (input.Response status body) f = f.5
+full-of before after input.Upgraded f = f.5
+full-of before after (input.Message bytes) f = f.5
+full-of before after input.Broken f = f.5
+full-of before after input.Gone f = f.5
 
 input-looked : (wire : ℕ) (before mid after : ResponseStateView) (answers : List Answer) (heard : Input) → before.accepted ≡ false → (r : ReadsInto wire before mid answers true) → Finds mid after heard →
     IsInput before after answers r.got heard
@@ -104,6 +115,17 @@ upgrade-at-end before after input.Broken (inl f) = f.0
 upgrade-at-end before after input.Broken (inr f) = f.0
 upgrade-at-end before after input.Gone f = f.0
 
+full-at-end : (before after : ResponseStateView) (heard : Input) → FindsAtEnd before after heard → after.last_read_was_full ≡ before.last_read_was_full
+full-at-end before after input.Nothing f = absurd f
+full-at-end before after (input.Request request) f = f.5
+full-at-end before after (input.Refused refusal) f = f.5
+full-at-end before after (input.Response status body) f = f.5
+full-at-end before after input.Upgraded f = f.5
+full-at-end before after (input.Message bytes) f = f.5
+full-at-end before after input.Broken (inl f) = f.5
+full-at-end before after input.Broken (inr f) = f.5
+full-at-end before after input.Gone f = f.5
+
 -- the wire was read, and then the bytes held are looked at, which may be out of memory
 pub hears-looked : {E : Type 0} (a b : Option (List Answer)) (wire : ℕ) (before mid after : ResponseStateView) (r : Result Input E) → before.accepted ≡ false →
     ((answers : List Answer) × Tells a b answers × ReadsInto wire before mid answers true) → IfOk r (Finds mid after) →
@@ -111,7 +133,7 @@ pub hears-looked : {E : Type 0} (a b : Option (List Answer)) (wire : ℕ) (befor
 hears-looked a b wire before mid after (Ok heard) free h f = (
   h.0,
   h.1,
-  record { got = h.2.got; read = h.2.read; upgrade = upgrade-of mid after heard f ∙ h.2.upgrade; is_input = input-looked wire before mid after h.0 heard free h.2 f },
+  record { got = h.2.got; read = h.2.read; upgrade = upgrade-of mid after heard f ∙ h.2.upgrade; is_input = input-looked wire before mid after h.0 heard free h.2 f; full = full-of mid after heard f ∙ h.2.full },
 )
 hears-looked a b wire before mid after (Err why) free h f = f
 
@@ -122,7 +144,7 @@ pub hears-at-end : {E : Type 0} (a b : Option (List Answer)) (wire : ℕ) (befor
 hears-at-end a b wire before mid after (Ok heard) h f = (
   h.0,
   h.1,
-  record { got = h.2.got; read = h.2.read; upgrade = upgrade-at-end mid after heard f ∙ h.2.upgrade; is_input = input-at-end wire before mid after h.0 heard h.2 f },
+  record { got = h.2.got; read = h.2.read; upgrade = upgrade-at-end mid after heard f ∙ h.2.upgrade; is_input = input-at-end wire before mid after h.0 heard h.2 f; full = full-at-end mid after heard f ∙ h.2.full },
 )
 hears-at-end a b wire before mid after (Err why) h f = f
 
@@ -141,6 +163,11 @@ still-response wire state sound asleep = go (room_of state) refl where
   looked true false e f = cc e
   looked false false e f = refl
 
+  unread : (full room : Bool) → (full && room) ≡ false → room ≡ true → full ≡ false
+  unread false room e f = refl
+  unread true true e f = cc e
+  unread true false e f = cc f
+
   may_find : Bool
   may_find = state.has_unparsed && not state.concluded
 
@@ -156,10 +183,22 @@ still-response wire state sound asleep = go (room_of state) refl where
   input-is : (answers : List Answer) → IsAsked (room_of state) answers → IsInput state state answers (Some []) input.Nothing
   input-is answers asked = (refl, asked, none.0, none.0, refl, sym (append-nil state.lane.held), waiting)
 
+  -- there is room, so the last read didn't fill its own, as no bytes do
+  unfilled : 1 ≤ room_of state → state.last_read_was_full ≡ (0 == room_of state)
+  unfilled some =
+      unread state.last_read_was_full (nat_lt 0 (room_of state)) (neither may_find may_read none.1).1 (lt-ltb 0 (room_of state) some)
+      ∙ sym (ne_eqb 0 (room_of state) (λ same. omega (arith, same, some)))
+
   go : (n : ℕ) → room_of state ≡ n → (answers : List Answer) × IsNothing wire answers × HearsResponse wire state state answers input.Nothing
-  go zero e = ([], inl refl, record { got = Some []; read = refl; upgrade = refl; is_input = input-is [] (λ had. omega (arith, e, had)) })
+  go zero e = ([], inl refl, record { got = Some []; read = refl; upgrade = refl; is_input = input-is [] (λ had. omega (arith, e, had)); full = refl })
   go (suc n) e = (
     not_yet wire ∷ [],
     inr refl,
-    record { got = Some []; read = (omega (arith, e), (refl, refl)); upgrade = refl; is_input = input-is (not_yet wire ∷ []) (λ had. omega arith) },
+    record {
+      got = Some [];
+      read = (omega (arith, e), (refl, refl));
+      upgrade = refl;
+      is_input = input-is (not_yet wire ∷ []) (λ had. omega arith);
+      full = unfilled (omega (arith, e));
+    },
   )

@@ -13,6 +13,7 @@ use Rattle.hw_net.specs.declared.protocol.Protocol.TheVariants.{Http, Response, 
 use Rattle.hw_net.specs.declared.protocol.Stage.{Stage}
 use Rattle.hw_net.specs.declared.protocol.Stage.TheVariants.{Live, Lost, Closing, Over}
 use Rattle.hw_net.specs.Door.{IsNothing, RestsAt, kept}
+use Rattle.hw_net.proofs.HttpFacts.{none-fills, unfilled}
 use Rattle.hw_net.specs.HttpState.{HttpStateView, IsHttpState, IsWaiting, HearsHttp, room_of, is_awake as http_is_awake}
 use Rattle.hw_net.specs.Lane.{Lane, waits, frames_of, is_awake, is_awake_by, is_drained, is_live, is_late, is_over, has_drained, after_hearing}
 use Rattle.hw_net.specs.Resting.{IsSound, IsKnown}
@@ -82,6 +83,7 @@ still-http wire http_state sound asleep = go (room_of http_state.lane) refl wher
       asks = asks;
       is_input = (refl, λ had. omega (arith, e, had), refl, waiting);
       continued = refl;
+      full = refl;
     },
   )
   go (suc n) e = (
@@ -96,6 +98,7 @@ still-http wire http_state sound asleep = go (room_of http_state.lane) refl wher
       asks = asks;
       is_input = (refl, λ had. omega arith, refl, waiting);
       continued = refl;
+      full = unfilled http_state asleep (omega (arith, e)) ∙ sym (none-fills http_state.lane (omega (arith, e)));
     },
   )
 

@@ -1,5 +1,5 @@
 -- How a read of a wire and one of a WebSocket come to one turn.
-use Rattle.std.proofs.Common.{◌≡◌, ◌≤◌, ◌==◌, ◌++◌, ℕ, List, [], ◌∷◌, Bool, true, false, Option, Some, IfOk, Result, Ok, Err, refl, sym, ap, subst, ◌∙◌, arith, length}
+use Rattle.std.proofs.Common.{◌≡◌, ◌≤◌, ◌==◌, ◌++◌, ℕ, List, [], ◌∷◌, Bool, true, false, Option, Some, IfOk, Result, Ok, Err, refl, sym, ap, subst, ◌∙◌, arith, length, length-take, min, take}
 use Rattle.std.proofs.lemmas.List.{nil_from_length}
 use Rattle.websocket.specs.Connection.{read_step}
 use Rattle.websocket.specs.Frame.{decode_frame}
@@ -20,8 +20,9 @@ room-wants_read before e = rw e refl
 
 pub websocket_state-reads : (a b : Option (List Answer)) (wire room : ℕ) (before after : WebSocketState) (piece : List ℕ) → before.wants_read ≡ true → room ≡ PIECE →
     ((answer : Answer) × Tells a b (answer ∷ []) × Reads wire room answer (Some piece)) → Feeds before.lane piece after.lane → after.lost_bytes ≡ before.lost_bytes →
+    after.last_read_was_full ≡ (length piece == room) →
     (answers : List Answer) × Tells a b answers × ReadsInto wire before after answers true
-websocket_state-reads a b wire room before after piece wants_read size h fed same_spoiled =
+websocket_state-reads a b wire room before after piece wants_read size h fed same_spoiled full =
     let same : room ≡ room_of before = size ∙ sym (room-wants_read before wants_read) in
     let some : 1 ≤ room_of before = omega (arith, room-wants_read before wants_read) in (
       h.0 ∷ [],
@@ -33,6 +34,7 @@ websocket_state-reads a b wire room before after piece wants_read size h fed sam
         whole = refl;
         fed = fed;
         lost_bytes = same_spoiled;
+        full = full ∙ ap (λ n. length piece == n) same;
       },
     )
 
@@ -46,12 +48,29 @@ input-of wire before mid after answers (input.Message bytes) r f = ((sym r.whole
 input-of wire before mid after answers input.Broken r f = absurd f
 input-of wire before mid after answers input.Gone r f = ((sym r.whole, (mid.lane, r.fed, f.0)), f.1)
 
+-- a look reads nothing
+pub full-of : (before after : WebSocketState) (heard : Input) → Finds before after heard → after.last_read_was_full ≡ before.last_read_was_full
+full-of before after input.Nothing f = f.2
+full-of before after (input.Request request) f = absurd f
+full-of before after (input.Refused refusal) f = absurd f
+full-of before after (input.Response status body) f = absurd f
+full-of before after input.Upgraded f = absurd f
+full-of before after (input.Message bytes) f = f.2
+full-of before after input.Broken f = absurd f
+full-of before after input.Gone f = f.2
+
+-- the buffer is filled exactly if all that is in front is as long as it
+pub filled : (count : ℕ) (buf : List ℕ) (full : Bool) → count ≤ length buf → full ≡ (count == length buf) → full ≡ (length (take count buf) == length buf)
+filled count buf full some e =
+    let size : length (take count buf) ≡ min count (length buf) = length-take count buf in
+    e ∙ ap (λ n. n == length buf) (omega (arith, size, some))
+
 pub websocket_state-hears : {E : Type 0} (a b : Option (List Answer)) (wire : ℕ) (before mid after : WebSocketState) (whole : Bool) (r : Result Input E) → whole ≡ true → before.lost_bytes ≡ false →
     ((answers : List Answer) × Tells a b answers × ReadsInto wire before mid answers whole) → IfOk r (Finds mid after) → after.lost_bytes ≡ mid.lost_bytes →
     IfOk r (λ heard. (answers : List Answer) × Tells a b answers × HearsWebSocket wire before after answers heard)
 websocket_state-hears a b wire before mid after whole (Ok heard) e had_all h f same =
     let read : ReadsInto wire before mid h.0 true = subst (λ w. ReadsInto wire before mid h.0 w) e h.2 in
-    (h.0, h.1, record { got = read.got; read = read.read; is_input = input-of wire before mid after h.0 heard read f; lost_bytes = same ∙ read.lost_bytes; breaks = λ lost. absurd (cc (sym had_all ∙ lost)) })
+    (h.0, h.1, record { got = read.got; read = read.read; is_input = input-of wire before mid after h.0 heard read f; lost_bytes = same ∙ read.lost_bytes; full = full-of mid after heard f ∙ read.full; breaks = λ lost. absurd (cc (sym had_all ∙ lost)) })
 websocket_state-hears a b wire before mid after whole (Err why) e had_all h f same = f
 
 -- ---- one that is new

@@ -10,7 +10,7 @@ use Rattle.hw_door.specs.Traffic.{Answer}
 use Rattle.hw_net.specs.declared.limits.TheConstants.{PIECE}
 use Rattle.hw_net.specs.declared.input.Input.{Input}
 use Rattle.hw_net.specs.declared.input.Input.TheVariants as input
-use Rattle.hw_net.specs.Trace.{Gives, IsAsked, bytes_of}
+use Rattle.hw_net.specs.Trace.{Gives, IsAsked, bytes_of, is_full_after}
 
 pub record HttpStateView : Type 0 where
   -- the bytes held, and what was made of them
@@ -71,6 +71,7 @@ pub record ReadsInto (wire : ℕ) (before after : HttpStateView) (answers : List
   pub whole : is_whole ≡ is_some got
   pub busy : after.busy ≡ before.busy
   pub continued : after.continued ≡ before.continued
+  pub full : after.last_read_was_full ≡ is_full_after (room_of before.lane) answers got before.last_read_was_full
   pub asks : (bytes : List ℕ) (requests : List Request) → Asks bytes requests before.lane.held
       → Asks (bytes ++ bytes_of got) requests after.lane.held
 
@@ -87,12 +88,12 @@ abbrev pub Finds : HttpStateView → HttpStateView → Input → Type 0
 Finds before after input.Nothing =
     (after.lane.held ≡ before.lane.held) × (after.busy ≡ before.busy) × (after.busy ≡ false → IsWaiting after.lane)
     × ((after ≡ before) ⊎ ((1 ≤ room after.lane) × AwaitsAfter before after)) × (before.busy ≡ true → after ≡ before)
-    × (after.continued ≡ before.continued)
+    × (after.continued ≡ before.continued) × (after.last_read_was_full ≡ before.last_read_was_full)
 Finds before after (input.Request request) =
-    (before.busy ≡ false) × (after.busy ≡ true) × (after.continued ≡ before.continued)
+    (before.busy ≡ false) × (after.busy ≡ true) × (after.continued ≡ before.continued) × (after.last_read_was_full ≡ before.last_read_was_full)
 Finds before after (input.Refused refusal) =
     (after.lane.held ≡ before.lane.held) × (before.busy ≡ false) × (after.busy ≡ false) × Refuses request_grammar before.lane.held refusal
-    × (after.continued ≡ before.continued)
+    × (after.continued ≡ before.continued) × (after.last_read_was_full ≡ before.last_read_was_full)
 Finds before after (input.Response status body) = ⊥
 Finds before after input.Upgraded = ⊥
 Finds before after (input.Message bytes) = ⊥
@@ -136,3 +137,5 @@ pub record HearsHttp (wire : ℕ) (before after : HttpStateView) (answers : List
       → Asks (bytes ++ bytes_of got) (requests ++ requests_of heard) after.lane.held
   pub is_input : IsInput before after answers got heard
   pub continued : after.continued ≡ before.continued
+  -- whether the last read filled its room is known by this one, if there was one
+  pub full : after.last_read_was_full ≡ is_full_after (room_of mid) answers got before.last_read_was_full

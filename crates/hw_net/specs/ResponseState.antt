@@ -13,7 +13,7 @@ use Rattle.hw_net.specs.declared.limits.TheConstants.{PIECE, SWITCHING}
 use Rattle.hw_net.specs.declared.input.Input.{Input}
 use Rattle.hw_net.specs.declared.input.Input.TheVariants as input
 use Rattle.hw_net.specs.Input.{is_upgraded}
-use Rattle.hw_net.specs.Trace.{Gives, IsAsked, bytes_of}
+use Rattle.hw_net.specs.Trace.{Gives, IsAsked, bytes_of, is_full_after}
 
 pub record ResponseStateView : Type 0 where
   -- the bytes held, and what was made of them
@@ -109,15 +109,16 @@ pub record ReadsInto (wire : ℕ) (before after : ResponseStateView) (answers : 
   pub upgrade : after.upgrade ≡ before.upgrade
   pub concluded : after.concluded ≡ before.concluded
   pub accepted : after.accepted ≡ before.accepted
+  pub full : after.last_read_was_full ≡ is_full_after (room_of before) answers got before.last_read_was_full
 
 -- a look for the response in the bytes held, unless it came
 abbrev pub Finds : ResponseStateView → ResponseStateView → Input → Type 0
 Finds before after input.Nothing =
     (after.upgrade ≡ before.upgrade) × (after.lane.held ≡ before.lane.held) × (after.concluded ≡ before.concluded)
-    × (after.accepted ≡ before.accepted) × (after.concluded ≡ false → IsWaiting after.lane)
+    × (after.accepted ≡ before.accepted) × (after.concluded ≡ false → IsWaiting after.lane) × (after.last_read_was_full ≡ before.last_read_was_full)
 Finds before after heard =
     (after.upgrade ≡ before.upgrade) × (before.concluded ≡ false) × (after.concluded ≡ true) × (after.accepted ≡ is_upgraded heard)
-    × Comes before.upgrade before.lane.held after.lane.held heard
+    × Comes before.upgrade before.lane.held after.lane.held heard × (after.last_read_was_full ≡ before.last_read_was_full)
 
 -- a look after which no more bytes come: if it finds nothing, the lane is broken
 abbrev pub FindsAtEnd : ResponseStateView → ResponseStateView → Input → Type 0
@@ -152,3 +153,5 @@ pub record HearsResponse (wire : ℕ) (before after : ResponseStateView) (answer
   pub read : Gives wire (room_of before) answers got
   pub upgrade : after.upgrade ≡ before.upgrade
   pub is_input : IsInput before after answers got heard
+  -- whether the last read filled its room is known by this one, if there was one
+  pub full : after.last_read_was_full ≡ is_full_after (room_of before) answers got before.last_read_was_full

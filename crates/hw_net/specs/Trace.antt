@@ -1,5 +1,5 @@
 -- What calls on wires come to, as the wires tell it.
-use Rattle.std.specs.Prelude.{◌≡◌, ◌≤◌, ℕ, Bool, true, false, List, [], ◌∷◌, ◌++◌, length, Option, None, Some}
+use Rattle.std.specs.Prelude.{◌≡◌, ◌≤◌, ◌==◌, ℕ, Bool, true, false, List, [], ◌∷◌, ◌++◌, length, Option, None, Some}
 use Rattle.hw_door.specs.Traffic.{Answer, bytes_in, not_yet, ended, read_failed}
 
 -- these answers were told too, in order, if anything still is
@@ -25,6 +25,13 @@ Gives wire room (answer ∷ next ∷ more) got = ⊥
 -- the wire was read, if there was room
 abbrev pub IsAsked : ℕ → List Answer → Type 0
 IsAsked room answers = 1 ≤ room → 1 ≤ length answers
+
+-- Whether the last read filled its room, once the wire was read so: a read that gave bytes did exactly if there are as many. It is as before if the
+-- wire wasn't read, or broke
+abbrev pub is_full_after : ℕ → List Answer → Option (List ℕ) → Bool → Bool
+is_full_after room [] got was_full = was_full
+is_full_after room (answer ∷ answers) None was_full = was_full
+is_full_after room (answer ∷ answers) (Some bytes) was_full = length bytes == room
 
 -- the bytes that were read
 abbrev pub bytes_of : Option (List ℕ) → List ℕ

@@ -10,7 +10,7 @@ use Rattle.hw_socket.specs.declared.vocabulary.SocketSide.{SocketSide}
 use Rattle.hw_net.specs.declared.limits.TheConstants.{PIECE}
 use Rattle.hw_net.specs.declared.input.Input.{Input}
 use Rattle.hw_net.specs.declared.input.Input.TheVariants as input
-use Rattle.hw_net.specs.Trace.{Gives, IsAsked, bytes_of}
+use Rattle.hw_net.specs.Trace.{Gives, IsAsked, bytes_of, is_full_after}
 
 pub record WebSocketState : Type 0 where
   -- the WebSocket, with the bytes that it was fed and hasn't taken
@@ -75,12 +75,14 @@ pub record ReadsInto (wire : ℕ) (before after : WebSocketState) (answers : Lis
   pub whole : is_whole ≡ is_some got
   pub fed : Feeds before.lane (bytes_of got) after.lane
   pub lost_bytes : after.lost_bytes ≡ before.lost_bytes
+  pub full : after.last_read_was_full ≡ is_full_after (room_of before) answers got before.last_read_was_full
 
 -- one read of the WebSocket
 abbrev pub Finds : WebSocketState → WebSocketState → Input → Type 0
-Finds before after input.Nothing = Takes before.lane after.lane read.NotYet × (after.wants_read ≡ true)
-Finds before after (input.Message bytes) = Takes before.lane after.lane (read.Payload bytes) × (after.wants_read ≡ false)
-Finds before after input.Gone = Takes before.lane after.lane read.Gone × (after.wants_read ≡ false)
+Finds before after input.Nothing = Takes before.lane after.lane read.NotYet × (after.wants_read ≡ true) × (after.last_read_was_full ≡ before.last_read_was_full)
+Finds before after (input.Message bytes) =
+    Takes before.lane after.lane (read.Payload bytes) × (after.wants_read ≡ false) × (after.last_read_was_full ≡ before.last_read_was_full)
+Finds before after input.Gone = Takes before.lane after.lane read.Gone × (after.wants_read ≡ false) × (after.last_read_was_full ≡ before.last_read_was_full)
 Finds before after _ = ⊥
 
 -- What is heard is what a read gives after the bytes that came. It is heard as broken only where its wire broke at a read before which all that is whole was
@@ -104,4 +106,6 @@ pub record HearsWebSocket (wire : ℕ) (before after : WebSocketState) (answers 
   pub read : Gives wire (room_of before) answers got
   pub is_input : IsInput before after answers got heard
   pub lost_bytes : after.lost_bytes ≡ before.lost_bytes
+  -- whether the last read filled its room is known by this one, if there was one
+  pub full : after.last_read_was_full ≡ is_full_after (room_of before) answers got before.last_read_was_full
   pub breaks : before.lost_bytes ≡ true → heard ≡ input.Broken

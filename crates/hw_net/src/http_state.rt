@@ -181,6 +181,7 @@ impl HttpState {
         ensures held { self.new.lane ≡ record self.old.lane { held = self.old.lane.held ++ piece.now } }
         ensures busy { self.new.busy ≡ self.old.busy }
         ensures continued { self.new.continued ≡ self.old.continued }
+        ensures full { self.new.last_read_was_full ≡ is_full }
         ensures asks { (bytes : List ℕ) (requests : List Request) → Asks bytes requests self.old.lane.held
             → Asks (bytes ++ piece.now) requests self.new.lane.held }
     {

@@ -200,6 +200,7 @@ impl ResponseState {
         ensures upgrade { self.new.upgrade ≡ self.old.upgrade }
         ensures concluded { self.new.concluded ≡ self.old.concluded }
         ensures accepted { self.new.accepted ≡ self.old.accepted }
+        ensures full { self.new.last_read_was_full ≡ is_full }
     {
         self.last_read_was_full = is_full;
         if !piece.is_empty() {

@@ -1,6 +1,6 @@
 //! A lane while it is a WebSocket. It knows nothing of when it is written.
 
-ghost use Rattle.std.specs.Prelude.{◌≡◌, ◌≤◌, ◌&&◌, ◌||◌, ◌∷◌, [], ℕ, List, true, false, not, length, take, is_some, option_map, IfOk, IfSome, OnOk, OnErr};
+ghost use Rattle.std.specs.Prelude.{◌≡◌, ◌≤◌, ◌==◌, ◌&&◌, ◌||◌, ◌∷◌, [], ℕ, List, true, false, not, length, take, is_some, option_map, IfOk, IfSome, OnOk, OnErr};
 ghost use Rattle.hw_door.specs.Traffic.{Answer};
 ghost use Rattle.hw_socket.specs.Reading.{Feeds, Loses};
 ghost use Rattle.hw_socket.specs.Sending as sending;
@@ -182,6 +182,7 @@ impl WebSocketState {
         requires { count ≤ length buf.now }
         ensures fed { OnOk result (Feeds self.old.lane (take count buf.now) self.new.lane) }
         ensures whole { OnOk result (self.new.lost_bytes ≡ self.old.lost_bytes) }
+        ensures full { OnOk result (self.new.last_read_was_full ≡ (count == length buf.now)) }
         ensures lost { OnErr result (self.new ≡ record self.old { last_read_was_full = true; lost_bytes = true }) }
     {
         let piece = &buf[..count];
