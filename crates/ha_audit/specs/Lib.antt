@@ -12,3 +12,4 @@ pub mod AloneState
 pub mod AloneKeeps
 pub mod AloneSteps
 pub mod AloneVerdict
+pub mod VerdictLines

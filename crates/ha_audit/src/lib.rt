@@ -36,6 +36,7 @@ mod line;
 mod reader;
 mod trace;
 mod verdict;
+mod wording;
 mod worked;
 
 pub use alone::audit_alone;
@@ -46,4 +47,5 @@ pub use laws::{lines_are_lines, long_is_refused_by_its_front, traces_are_told_on
 pub use reader::Reader;
 pub use trace::{MOST_TRACE, Trace, parse, parse_alone};
 pub use verdict::audit;
+pub use wording::{verdict_alone_line, verdict_line};
 pub use worked::spelled;
