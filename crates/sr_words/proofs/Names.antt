@@ -1,10 +1,12 @@
 -- Names that differ, and that texts, numbers, options, codecs and URLs say one value each, and rows one user.
-use Rattle.std.proofs.Common.{◌≡◌, ◌∙◌, ℕ, List, Option, ap, Some, true, false, codes, refl, subst, sym}
+use Rattle.std.proofs.Common.{◌≡◌, ◌∙◌, ℕ, List, Option, ap, None, Some, option_map, true, false, codes, refl, subst, sym}
 use Rattle.std.proofs.NetLemmas.Theorems.{IsIpText_unique}
 use Rattle.std.specs.Str.{bytes_eq}
 use Rattle.std.proofs.lemmas.Slice.Eq.{bytes_eq-Decides}
 use Rattle.clap.specs.Words.{Row, Text}
 use Rattle.std.specs.Str.Parse.{digits_value, without_leading_plus}
+use Rattle.hd_delivery.specs.declared.vocabulary.Side.{Side}
+use Rattle.hd_delivery.specs.declared.vocabulary.Side.TheVariants as end
 use Rattle.hm_message.specs.declared.message.Codec.{Codec}
 use Rattle.hm_message.specs.declared.message.Codec.TheVariants.{Json, Pack}
 use Rattle.hn_dialing.specs.Addresses.{AddressesAreOne, IsAddress, IsSameAddress}
@@ -16,7 +18,7 @@ use Rattle.sr_words.specs.declared.serving.Serving.{Serving}
 use Rattle.sr_words.specs.Clap.{IsNumber, SaysNumber}
 use Rattle.sr_words.specs.Resends.{IsResend}
 use Rattle.sr_words.specs.Lives.{IsLive}
-use Rattle.sr_words.specs.Words.{IsCodec, IsGiven, SaysAdding, SaysAddress, SaysDialing, SaysServing, client_options, codec_name, serve_options}
+use Rattle.sr_words.specs.Words.{IsCodec, IsGiven, SaysAdding, SaysAddress, SaysDialing, SaysServing, SaysSide, client_options, codec_name, serve_options, side_name}
 use Rattle.sr_words.proofs.Options.{agree}
 
 pub apart : (a b : Text) → bytes_eq a b ≡ false → a ≡ b → ⊥
@@ -40,6 +42,22 @@ one_codec text a b x y = same_codec a b (ap Some (sym x ∙ y))
 -- a text that may be absent is one value
 one_given : (text a b : Option Text) → IsGiven text a → IsGiven text b → a ≡ b
 one_given text a b x y = x ∙ sym y
+
+same_name : (a b : Side) → Some (side_name a) ≡ Some (side_name b) → a ≡ b
+same_name end.Client end.Client e = refl
+same_name end.Client end.Server e = absurd (apart (codes "client") (codes "server") refl (inside e))
+same_name end.Server end.Client e = absurd (apart (codes "server") (codes "client") refl (inside e))
+same_name end.Server end.Server e = refl
+
+same_option : (a b : Option Side) → option_map side_name a ≡ option_map side_name b → a ≡ b
+same_option None None e = refl
+same_option None (Some b) e = cc
+same_option (Some a) None e = cc
+same_option (Some a) (Some b) e = ap Some (same_name a b e)
+
+-- rows say one end, or none
+pub same_side : (rows : List Row) (a b : Option Side) → SaysSide rows a → SaysSide rows b → a ≡ b
+same_side rows a b x y = same_option a b (sym x ∙ y)
 
 -- a text is one number
 pub one_number : (bits : ℕ) (text : Text) (m n : ℕ) → IsNumber bits text m → IsNumber bits text n → m ≡ n

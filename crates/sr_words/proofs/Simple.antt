@@ -7,7 +7,7 @@ use Rattle.clap.specs.Walk.{Rule, Text, is_early_multiple}
 use Rattle.clap.specs.Words.{App, is_simple_and_free}
 use Rattle.sr_words.specs.Clap.{bare_app, optional}
 use Rattle.sr_words.specs.Options.{Told, told_of, with_options}
-use Rattle.sr_words.specs.Words.{client_app, serve_app, serve_options, user_app}
+use Rattle.sr_words.specs.Words.{audit_app, client_app, serve_app, serve_options, user_app}
 
 abbrev rules_of : List Told → List Rule
 rules_of options = map (λ option. optional option.0 option.1) options
@@ -53,3 +53,6 @@ client_is_simple = refl
 
 pub user_is_simple : is_simple_and_free user_app ≡ true
 user_is_simple = refl
+
+pub audit_is_simple : is_simple_and_free audit_app ≡ true
+audit_is_simple = refl

@@ -1,21 +1,23 @@
 -- What the words of the command line ask for.
-use Rattle.std.specs.Prelude.{◌≡◌, ◌≢◌, ◌≤◌, ℕ, List, [], ◌∷◌, Option, Some, None, map, codes, String, string_bytes}
+use Rattle.std.specs.Prelude.{◌≡◌, ◌≢◌, ◌≤◌, ℕ, List, [], ◌∷◌, Option, Some, None, map, option_map, codes, String, string_bytes}
 use Rattle.std.specs.Net.Grammar.{IsIpText}
 use Rattle.std.specs.declared.alloc.Global.{Global}
 use Rattle.clap.specs.Words.{App, Row, Text, first_of, matches_of, with_rule}
 use Rattle.hd_facts.specs.Unique.{IsTheOne}
+use Rattle.hd_delivery.specs.declared.vocabulary.Side.{Side}
+use Rattle.hd_delivery.specs.declared.vocabulary.Side.TheVariants as end
 use Rattle.hm_message.specs.declared.message.Codec.{Codec}
 use Rattle.hm_message.specs.declared.message.Codec.TheVariants.{Json, Pack}
 use Rattle.hn_dialing.specs.Addresses.{IsAddress}
 use Rattle.hw_door.specs.declared.heard.Address.{Address}
 use Rattle.sr_words.specs.declared.adding.Adding.{Adding}
 use Rattle.sr_words.specs.declared.commands.Command.{Command}
-use Rattle.sr_words.specs.declared.commands.Command.TheVariants.{Replay, Record, Soak, Check, Convert, Serve, Client, User}
+use Rattle.sr_words.specs.declared.commands.Command.TheVariants.{Replay, Record, Audit, Soak, Check, Convert, Serve, Client, User}
 use Rattle.sr_words.specs.declared.dialing.Dialing.{Dialing}
 use Rattle.sr_words.specs.declared.serving.Serving.{Serving}
 use Rattle.sr_words.specs.declared.serving.Settings.{Settings}
 use Rattle.sr_words.specs.Base.{IsBase}
-use Rattle.sr_words.specs.Clap.{Gives, IsNumber, SaysNumber, Takes, bare_app, required, required_option}
+use Rattle.sr_words.specs.Clap.{Gives, IsNumber, SaysNumber, Takes, bare_app, optional, required, required_option}
 use Rattle.sr_words.specs.Options.{Choice, SayAll, choice, choice_if_given, choice_of_two, told_of, with_options}
 use Rattle.sr_words.specs.Resends.{IsResend}
 use Rattle.sr_words.specs.Lives.{IsLive}
@@ -27,6 +29,14 @@ codec_name Pack = codes "pack"
 -- the text names the codec
 abbrev pub IsCodec : Text → Codec → Type 0
 IsCodec text codec = text ≡ codec_name codec
+
+abbrev pub side_name : Side → Text
+side_name end.Client = codes "client"
+side_name end.Server = codes "server"
+
+-- the text names the end
+abbrev pub IsSide : Text → Side → Type 0
+IsSide text side = text ≡ side_name side
 
 -- the value is the text that is given, if one is
 abbrev pub IsGiven : Option Text → Option Text → Type 0
@@ -63,6 +73,13 @@ replay_app = bare_app (codes "replay")
 
 abbrev pub record_app : App
 record_app = bare_app (codes "record")
+
+abbrev pub audit_app : App
+audit_app = with_rule (bare_app (codes "audit")) (optional (codes "side") 1)
+
+-- these rows give the option `side` the name of this end, or nothing if there is none
+abbrev pub SaysSide : List Row → Option Side → Type 0
+SaysSide rows side = first_of (codes "side") rows ≡ option_map side_name side
 
 abbrev pub soak_app : App
 soak_app = with_rule (with_rule (bare_app (codes "soak")) (required (codes "seed"))) (required (codes "steps"))
@@ -105,6 +122,7 @@ SaysAdding rows adding =
 abbrev pub AsksAfter : Text → List Text → Command → Type 0
 AsksAfter name rest Replay = (name ≡ codes "replay") × Takes replay_app rest
 AsksAfter name rest Record = (name ≡ codes "record") × Takes record_app rest
+AsksAfter name rest (Audit side) = (name ≡ codes "audit") × Takes audit_app rest × SaysSide (matches_of audit_app rest) side
 AsksAfter name rest (Soak seed steps) =
     (name ≡ codes "soak") × Takes soak_app rest × SaysNumber (codes "seed") seed (matches_of soak_app rest)
     × SaysNumber (codes "steps") steps (matches_of soak_app rest) × (steps ≤ most_steps)

@@ -3,6 +3,7 @@
 use crate::adding::Adding;
 use crate::dialing::Dialing;
 use crate::serving::Serving;
+use hd_delivery::Side;
 use hm_message::Codec;
 
 /// What the words of a command line ask for.
@@ -12,6 +13,8 @@ pub enum Command {
     Replay,
     /// To write down the session of a script, as a trace.
     Record,
+    /// To judge a trace: of two ends, or of this one alone.
+    Audit { side: Option<Side> },
     /// To let two peers do what numbers say that are drawn from this seed, in so many steps: at most [`MOST_STEPS`](crate::MOST_STEPS).
     Soak { seed: u64, steps: u32 },
     /// To tell of each frame what it says.

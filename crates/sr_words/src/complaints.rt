@@ -1,6 +1,7 @@
 //! What is said to a person whose words are no command. Nothing is promised of it: it is for reading.
 
 use crate::adding::USER_OPTIONS;
+use crate::auditing::AUDIT_OPTIONS;
 use crate::choice::Choice;
 use crate::dialing::CLIENT_OPTIONS;
 use crate::error::WordsError;
@@ -12,7 +13,7 @@ use std::alloc::{AllocError, Global};
 
 /// The commands that there are.
 const COMMANDS: &str =
-    "the commands are replay, soak, serve, client, check, convert, user and record";
+    "the commands are replay, soak, serve, client, check, convert, user, record and audit";
 
 /// What is wrong with words that are no command, and what the command that they name takes, in one line without its end.
 pub fn complaint(alloc: Global, words: &[String]) -> Result<String, AllocError> {
@@ -38,6 +39,7 @@ pub fn complaint(alloc: Global, words: &[String]) -> Result<String, AllocError> 
 fn form_of(name: &str) -> Option<&'static str> {
     match name {
         "replay" | "record" => Some("no words: its script comes by standard input"),
+        "audit" => Some("--side SIDE (client or server); its trace comes by standard input"),
         "soak" => Some("SEED STEPS, a number of 64 bits and one up to 100000"),
         "check" => Some("CODEC, which is json or pack"),
         "convert" => Some("FROM TO, which are json and pack, or pack and json"),
@@ -61,6 +63,7 @@ fn options_of(name: &str) -> Option<&'static [Choice]> {
         "serve" => Some(SERVE_OPTIONS),
         "client" => Some(CLIENT_OPTIONS),
         "user" => Some(USER_OPTIONS),
+        "audit" => Some(AUDIT_OPTIONS),
         _ => None,
     }
 }

@@ -7,6 +7,7 @@
 #![tactic(auto)]
 
 mod adding;
+mod auditing;
 mod choice;
 mod commands;
 mod complaints;

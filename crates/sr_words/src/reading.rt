@@ -6,15 +6,17 @@ ghost use Rattle.std.specs.Net.Grammar.{IsIpText};
 ghost use Rattle.std.specs.declared.net.ip_addr.IpAddr.{IpAddr};
 ghost use Rattle.sr_words.specs.Base.{IsBase, IsPath, is_path_byte};
 ghost use Rattle.sr_words.specs.Clap.{IsNumber};
+ghost use Rattle.hd_delivery.specs.declared.vocabulary.Side.{Side};
 ghost use Rattle.hm_message.specs.declared.message.Codec.{Codec};
 ghost use Rattle.hn_dialing.specs.Addresses.{IsAddress};
 ghost use Rattle.hub_server.specs.Resend.{ResendLimits as LimitsMeant};
 ghost use Rattle.hw_door.specs.declared.heard.Address.{Address};
 ghost use Rattle.sr_words.specs.Lives.{IsLive};
 ghost use Rattle.sr_words.specs.Resends.{IsResend};
-ghost use Rattle.sr_words.specs.Words.{IsCodec};
+ghost use Rattle.sr_words.specs.Words.{IsCodec, IsSide};
 
 use crate::error::WordsError;
+use hd_delivery::Side;
 use hd_server::LiveLimit;
 use hm_message::Codec;
 use hn_dialing::{AddressError, hub_address};
@@ -57,6 +59,19 @@ pub(crate) fn codec(text: &str) -> Result<Codec, WordsError>
     match text {
         "json" => Ok(Codec::Json),
         "pack" => Ok(Codec::Pack),
+        _ => Err(WordsError::NoCommand),
+    }
+}
+
+/// The end that a text names.
+pub(crate) fn side(text: &str) -> Result<Side, WordsError>
+    ensures said { IfOk result (IsSide text.now) }
+    ensures none { IfErr result (λ e. (e ≡ WordsError.NoCommand)
+        × ((side : Side) → IsSide text.now side → ⊥)) }
+{
+    match text {
+        "client" => Ok(Side::Client),
+        "server" => Ok(Side::Server),
         _ => Err(WordsError::NoCommand),
     }
 }

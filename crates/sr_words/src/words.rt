@@ -1,11 +1,12 @@
 //! What the words of a command line ask for, command by command.
 
-ghost use Rattle.std.specs.Prelude.{◌≡◌, ℕ, List, Err, IfOk, IfErr, Some, map, true, false, codes};
+ghost use Rattle.std.specs.Prelude.{◌≡◌, ℕ, List, Err, IfOk, IfErr, Option, Some, map, true, false, codes};
 ghost use Rattle.clap.specs.Words.{app_of, rule_of, first_of, found_of, is_simple_and_free, matches_of, rows_of};
 ghost use Rattle.hd_facts.specs.Unique.{IsTheOne};
 ghost use Rattle.sr_words.specs.Clap.{SaysNumber, Takes, bare_app, optional, required, required_option};
 ghost use Rattle.sr_words.specs.Options.{text_of, texts_of, with_options};
-ghost use Rattle.sr_words.specs.Words.{AreSettings, Asks, AsksAfter, AsksNothingAfter, IsNoCommand, SaysAdding, SaysAddress, SaysDialing, SaysServing, check_app, client_app, codec_name, convert_app, no_settings, record_app, replay_app, serve_app, settings_of, soak_app, texts, user_app};
+ghost use Rattle.sr_words.specs.Words.{AreSettings, Asks, AsksAfter, AsksNothingAfter, IsNoCommand, SaysAdding, SaysAddress, SaysDialing, SaysServing, SaysSide, audit_app, check_app, client_app, codec_name, convert_app, no_settings, record_app, replay_app, serve_app, settings_of, soak_app, texts, user_app};
+ghost use Rattle.hd_delivery.specs.declared.vocabulary.Side.{Side};
 ghost use Rattle.hm_message.specs.declared.message.Codec.{Codec};
 ghost use Rattle.hw_door.specs.declared.heard.Address.{Address};
 ghost use Rattle.sr_words.specs.declared.adding.Adding.{Adding};
@@ -17,9 +18,10 @@ use crate::choice::Choice;
 use crate::commands::Command;
 use crate::dialing::{CLIENT_OPTIONS, Dialing};
 use crate::error::WordsError;
-use crate::reading::{address, base, codec, hub, live, number, port, resend};
+use crate::reading::{address, base, codec, hub, live, number, port, resend, side};
 use crate::serving::{SERVE_OPTIONS, Serving, Settings};
 use clap::{Arg, ArgAction, ArgMatches};
+use hd_delivery::Side;
 use hm_message::Codec;
 use hn_dialing::addresses_are_one;
 use hv_value::Text;
@@ -133,6 +135,38 @@ fn record_words(alloc: Global, words: &[String]) -> Result<Command, WordsError>
 {
     matches_in(record_command(alloc), words)?;
     Ok(Command::Record)
+}
+
+/// The command `audit --side SIDE`, whose option may be absent.
+fn audit_command<'a>(alloc: Global) -> Result<clap::Command<'a>, AllocError>
+    ensures { IfOk result (λ command. app_of command ≡ audit_app) }
+{
+    bare(alloc, "audit").arg(optional(alloc, "side", 1))
+}
+
+/// The end that the option `side` names, if it is given.
+fn side_of(matches: &ArgMatches) -> Result<Option<Side>, WordsError>
+    ensures said { IfOk result (SaysSide (rows_of (found_of matches.now))) }
+    ensures none { IfErr result (λ e. (e ≡ WordsError.NoCommand)
+        × ((named : Option Side) → SaysSide (rows_of (found_of matches.now)) named → ⊥)) }
+{
+    let Some(text) = matches.get_str("side") else {
+        return Ok(None);
+    };
+    match side(text) {
+        Ok(side) => Ok(Some(side)),
+        Err(e) => Err(e),
+    }
+}
+
+/// What `audit` asks for with these words after it.
+fn audit_words(alloc: Global, words: &[String]) -> Result<Command, WordsError>
+    ensures ok { IfOk result (IsTheOne (AsksAfter (codes "audit") (texts words.now))) }
+    ensures no_command { result ≡ Err WordsError.NoCommand → AsksNothingAfter (codes "audit") (texts words.now) }
+{
+    let matches = matches_in(audit_command(alloc)?, words)?;
+    let side = side_of(&matches)?;
+    Ok(Command::Audit { side })
 }
 
 /// The command `check CODEC`.
@@ -402,6 +436,7 @@ pub fn parse(alloc: Global, words: &[String]) -> Result<Command, WordsError>
     match name.as_str() {
         "replay" => replay_words(alloc, rest),
         "record" => record_words(alloc, rest),
+        "audit" => audit_words(alloc, rest),
         "soak" => soak_words(alloc, rest),
         "check" => check_words(alloc, rest),
         "convert" => convert_words(alloc, rest),

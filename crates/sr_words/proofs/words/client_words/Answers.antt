@@ -3,7 +3,7 @@ use Rattle.std.proofs.lemmas.Result.{err_from_is_err_and}
 use Rattle.clap.specs.Words.{App, Row, Text, is_simple_and_free, matches_of}
 use Rattle.hn_dialing.specs.Addresses.{AddressesAreOne}
 use Rattle.sr_words.specs.declared.commands.Command.{Command}
-use Rattle.sr_words.specs.declared.commands.Command.TheVariants.{Replay, Record, Soak, Check, Convert, Serve, Client, User}
+use Rattle.sr_words.specs.declared.commands.Command.TheVariants.{Replay, Record, Audit, Soak, Check, Convert, Serve, Client, User}
 use Rattle.sr_words.specs.declared.dialing.Dialing.{Dialing}
 use Rattle.sr_words.specs.declared.error.WordsError.{WordsError}
 use Rattle.hd_facts.specs.Unique.{IsTheOne}
@@ -20,6 +20,7 @@ the_one one rest dialing takes says = record { holds = (refl, takes, says); only
     only : (other : Command) → AsksAfter (codes "client") rest other → other ≡ Client dialing
     only Replay asks = absurd (apart (codes "client") (codes "replay") refl asks.0)
     only Record asks = absurd (apart (codes "client") (codes "record") refl asks.0)
+    only (Audit side) asks = absurd (apart (codes "client") (codes "audit") refl asks.0)
     only (Soak seed steps) asks = absurd (apart (codes "client") (codes "soak") refl asks.0)
     only (Check codec) asks = absurd (apart (codes "client") (codes "check") refl asks.0)
     only (Convert from to) asks = absurd (apart (codes "client") (codes "convert") refl asks.0)
@@ -37,6 +38,7 @@ says_too own words rows dialing same found says =
 nothing : (rest : List Text) → ((dialing : Dialing) → SaysDialing (matches_of client_app rest) dialing → ⊥) → AsksNothingAfter (codes "client") rest
 nothing rest none Replay asks = apart (codes "client") (codes "replay") refl asks.0
 nothing rest none Record asks = apart (codes "client") (codes "record") refl asks.0
+nothing rest none (Audit side) asks = apart (codes "client") (codes "audit") refl asks.0
 nothing rest none (Soak seed steps) asks = apart (codes "client") (codes "soak") refl asks.0
 nothing rest none (Check codec) asks = apart (codes "client") (codes "check") refl asks.0
 nothing rest none (Convert from to) asks = apart (codes "client") (codes "convert") refl asks.0

@@ -2,7 +2,7 @@ use Rattle.std.proofs.Common.{◌≡◌, ◌≢◌, ◌∙◌, List, Some, codes
 use Rattle.clap.specs.Words.{App, Row, Text, first_of, matches_of}
 use Rattle.hm_message.specs.declared.message.Codec.{Codec}
 use Rattle.sr_words.specs.declared.commands.Command.{Command}
-use Rattle.sr_words.specs.declared.commands.Command.TheVariants.{Replay, Record, Soak, Check, Convert, Serve, Client, User}
+use Rattle.sr_words.specs.declared.commands.Command.TheVariants.{Replay, Record, Audit, Soak, Check, Convert, Serve, Client, User}
 use Rattle.hd_facts.specs.Unique.{IsTheOne}
 use Rattle.sr_words.specs.Clap.{Gives, Takes}
 use Rattle.sr_words.specs.Words.{AsksAfter, codec_name, convert_app, texts}
@@ -16,6 +16,7 @@ the_one rest from to takes from_is to_is differ = record { holds = (refl, takes,
     only : (other : Command) → AsksAfter (codes "convert") rest other → other ≡ Convert from to
     only Replay asks = absurd (apart (codes "convert") (codes "replay") refl asks.0)
     only Record asks = absurd (apart (codes "convert") (codes "record") refl asks.0)
+    only (Audit side) asks = absurd (apart (codes "convert") (codes "audit") refl asks.0)
     only (Soak seed steps) asks = absurd (apart (codes "convert") (codes "soak") refl asks.0)
     only (Check codec) asks = absurd (apart (codes "convert") (codes "check") refl asks.0)
     only (Convert a b) asks = ap₂ Convert (same_codec a from (sym asks.2 ∙ from_is)) (same_codec b to (sym asks.3 ∙ to_is))

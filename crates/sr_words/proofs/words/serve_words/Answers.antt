@@ -2,7 +2,7 @@ use Rattle.std.proofs.Common.{◌≡◌, ◌∙◌, Err, List, Result, ap, codes
 use Rattle.std.proofs.lemmas.Result.{err_from_is_err_and}
 use Rattle.clap.specs.Words.{App, Row, Text, is_simple_and_free, matches_of}
 use Rattle.sr_words.specs.declared.commands.Command.{Command}
-use Rattle.sr_words.specs.declared.commands.Command.TheVariants.{Replay, Record, Soak, Check, Convert, Serve, Client, User}
+use Rattle.sr_words.specs.declared.commands.Command.TheVariants.{Replay, Record, Audit, Soak, Check, Convert, Serve, Client, User}
 use Rattle.sr_words.specs.declared.error.WordsError.{WordsError}
 use Rattle.sr_words.specs.declared.serving.Serving.{Serving}
 use Rattle.hd_facts.specs.Unique.{IsTheOne}
@@ -19,6 +19,7 @@ the_one rest serving takes says = record { holds = (refl, takes, says); only = o
     only : (other : Command) → AsksAfter (codes "serve") rest other → other ≡ Serve serving
     only Replay asks = absurd (apart (codes "serve") (codes "replay") refl asks.0)
     only Record asks = absurd (apart (codes "serve") (codes "record") refl asks.0)
+    only (Audit side) asks = absurd (apart (codes "serve") (codes "audit") refl asks.0)
     only (Soak seed steps) asks = absurd (apart (codes "serve") (codes "soak") refl asks.0)
     only (Check codec) asks = absurd (apart (codes "serve") (codes "check") refl asks.0)
     only (Convert from to) asks = absurd (apart (codes "serve") (codes "convert") refl asks.0)
@@ -36,6 +37,7 @@ says_too own words rows serving same found says =
 nothing : (rest : List Text) → ((serving : Serving) → SaysServing (matches_of serve_app rest) serving → ⊥) → AsksNothingAfter (codes "serve") rest
 nothing rest none Replay asks = apart (codes "serve") (codes "replay") refl asks.0
 nothing rest none Record asks = apart (codes "serve") (codes "record") refl asks.0
+nothing rest none (Audit side) asks = apart (codes "serve") (codes "audit") refl asks.0
 nothing rest none (Soak seed steps) asks = apart (codes "serve") (codes "soak") refl asks.0
 nothing rest none (Check codec) asks = apart (codes "serve") (codes "check") refl asks.0
 nothing rest none (Convert from to) asks = apart (codes "serve") (codes "convert") refl asks.0

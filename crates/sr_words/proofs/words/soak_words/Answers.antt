@@ -1,7 +1,7 @@
 use Rattle.std.proofs.Common.{◌≡◌, ◌≤◌, ◌∙◌, ℕ, List, codes, ap, ap₂, refl, sym, subst, rules}
 use Rattle.clap.specs.Words.{App, Row, Text, matches_of}
 use Rattle.sr_words.specs.declared.commands.Command.{Command}
-use Rattle.sr_words.specs.declared.commands.Command.TheVariants.{Replay, Record, Soak, Check, Convert, Serve, Client, User}
+use Rattle.sr_words.specs.declared.commands.Command.TheVariants.{Replay, Record, Audit, Soak, Check, Convert, Serve, Client, User}
 use Rattle.hd_facts.specs.Unique.{IsTheOne}
 use Rattle.sr_words.specs.Clap.{SaysNumber, Takes}
 use Rattle.sr_words.specs.Words.{AsksAfter, AsksNothingAfter, most_steps, soak_app, texts}
@@ -15,6 +15,7 @@ the_one rest seed steps takes seed_is steps_are few = record { holds = (refl, ta
     only : (other : Command) → AsksAfter (codes "soak") rest other → other ≡ Soak seed steps
     only Replay asks = absurd (apart (codes "soak") (codes "replay") refl asks.0)
     only Record asks = absurd (apart (codes "soak") (codes "record") refl asks.0)
+    only (Audit side) asks = absurd (apart (codes "soak") (codes "audit") refl asks.0)
     only (Soak a b) asks = ap₂ Soak (same_number (codes "seed") (matches_of soak_app rest) a seed asks.2 seed_is)
         (same_number (codes "steps") (matches_of soak_app rest) b steps asks.3 steps_are)
     only (Check codec) asks = absurd (apart (codes "soak") (codes "check") refl asks.0)
@@ -37,6 +38,7 @@ found_too own words rows id n same found says = subst (λ rows. SaysNumber id n 
 nothing : (rest : List Text) → ((seed steps : ℕ) → AsksAfter (codes "soak") rest (Soak seed steps) → ⊥) → AsksNothingAfter (codes "soak") rest
 nothing rest none Replay asks = apart (codes "soak") (codes "replay") refl asks.0
 nothing rest none Record asks = apart (codes "soak") (codes "record") refl asks.0
+nothing rest none (Audit side) asks = apart (codes "soak") (codes "audit") refl asks.0
 nothing rest none (Soak seed steps) asks = none seed steps asks
 nothing rest none (Check codec) asks = apart (codes "soak") (codes "check") refl asks.0
 nothing rest none (Convert a b) asks = apart (codes "soak") (codes "convert") refl asks.0

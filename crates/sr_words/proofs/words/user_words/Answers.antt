@@ -3,7 +3,7 @@ use Rattle.std.proofs.lemmas.Result.{err_from_is_err_and}
 use Rattle.clap.specs.Words.{App, Row, Text, is_simple_and_free, matches_of}
 use Rattle.sr_words.specs.declared.adding.Adding.{Adding}
 use Rattle.sr_words.specs.declared.commands.Command.{Command}
-use Rattle.sr_words.specs.declared.commands.Command.TheVariants.{Replay, Record, Soak, Check, Convert, Serve, Client, User}
+use Rattle.sr_words.specs.declared.commands.Command.TheVariants.{Replay, Record, Audit, Soak, Check, Convert, Serve, Client, User}
 use Rattle.sr_words.specs.declared.error.WordsError.{WordsError}
 use Rattle.hd_facts.specs.Unique.{IsTheOne}
 use Rattle.sr_words.specs.Clap.{Takes}
@@ -19,6 +19,7 @@ the_one rest adding takes says = record { holds = (refl, takes, says); only = on
     only : (other : Command) → AsksAfter (codes "user") rest other → other ≡ User adding
     only Replay asks = absurd (apart (codes "user") (codes "replay") refl asks.0)
     only Record asks = absurd (apart (codes "user") (codes "record") refl asks.0)
+    only (Audit side) asks = absurd (apart (codes "user") (codes "audit") refl asks.0)
     only (Soak seed steps) asks = absurd (apart (codes "user") (codes "soak") refl asks.0)
     only (Check codec) asks = absurd (apart (codes "user") (codes "check") refl asks.0)
     only (Convert from to) asks = absurd (apart (codes "user") (codes "convert") refl asks.0)
@@ -36,6 +37,7 @@ says_too own words rows adding same found says =
 nothing : (rest : List Text) → ((adding : Adding) → SaysAdding (matches_of user_app rest) adding → ⊥) → AsksNothingAfter (codes "user") rest
 nothing rest none Replay asks = apart (codes "user") (codes "replay") refl asks.0
 nothing rest none Record asks = apart (codes "user") (codes "record") refl asks.0
+nothing rest none (Audit side) asks = apart (codes "user") (codes "audit") refl asks.0
 nothing rest none (Soak seed steps) asks = apart (codes "user") (codes "soak") refl asks.0
 nothing rest none (Check codec) asks = apart (codes "user") (codes "check") refl asks.0
 nothing rest none (Convert from to) asks = apart (codes "user") (codes "convert") refl asks.0
