@@ -5,9 +5,9 @@ use crate::auditing::AUDIT_OPTIONS;
 use crate::choice::Choice;
 use crate::dialing::CLIENT_OPTIONS;
 use crate::error::WordsError;
-use crate::reading::{address, base, codec, hub, live, number, port, resend};
+use crate::reading::{address, base, codec, hub, live, number, port, resend, side};
 use crate::serving::SERVE_OPTIONS;
-use crate::words::{client_command, matches_in, serve_command, text, texts};
+use crate::words::{audit_command, client_command, matches_in, serve_command, text, texts};
 use clap::ArgMatches;
 use std::alloc::{AllocError, Global};
 
@@ -104,6 +104,7 @@ fn refused(
     match name {
         "serve" => refused_by_serve(alloc, words),
         "client" => refused_by_client(alloc, words),
+        "audit" => refused_by_audit(alloc, words),
         _ => Ok(None),
     }
 }
@@ -134,6 +135,14 @@ fn refused_by_client(alloc: Global, words: &[String]) -> Result<Option<&'static 
         return Ok(Some("--codec"));
     }
     Ok(refused_by_both(&matches))
+}
+
+fn refused_by_audit(alloc: Global, words: &[String]) -> Result<Option<&'static str>, WordsError> {
+    let matches = matches_in(audit_command(alloc)?, words)?;
+    if side(text(&matches, "side", "client")).is_err() {
+        return Ok(Some("--side"));
+    }
+    Ok(None)
 }
 
 /// The first of the options that `serve` and `client` have in common that says what it may not say.

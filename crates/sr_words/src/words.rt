@@ -138,7 +138,7 @@ fn record_words(alloc: Global, words: &[String]) -> Result<Command, WordsError>
 }
 
 /// The command `audit --side SIDE`, whose option may be absent.
-fn audit_command<'a>(alloc: Global) -> Result<clap::Command<'a>, AllocError>
+pub(crate) fn audit_command<'a>(alloc: Global) -> Result<clap::Command<'a>, AllocError>
     ensures { IfOk result (λ command. app_of command ≡ audit_app) }
 {
     bare(alloc, "audit").arg(optional(alloc, "side", 1))
