@@ -9,7 +9,7 @@ use Rattle.sr_words.specs.declared.adding.Adding.{Adding}
 use Rattle.sr_words.specs.declared.commands.Command.{Command}
 use Rattle.sr_words.specs.declared.commands.Command.TheVariants.{User}
 use Rattle.sr_app.specs.declared.run.Status.{Status}
-use Rattle.sr_app.specs.declared.run.Status.TheVariants.{Done, Usage, Refused, ReadFault, WriteFault, DoorFault, KeeperFault, NoMemory, ConnectionRefused, LotsFault, TurnsDone}
+use Rattle.sr_app.specs.declared.run.Status.TheVariants.{Done, Usage, Refused, ReadFault, WriteFault, DoorFault, KeeperFault, NoMemory, ConnectionRefused, LotsFault, TurnsDone, BrokenOff}
 use Rattle.sr_app.specs.Run.{AddEnvironment, Ends, EndsAdding, IsAskedToAdd, IsUnwritten, adding, adding_line, input_output, kept_with, status_of_keeper}
 use Rattle.sr_app.proofs.Told.{bytes_of, appended_nothing, text_is_told}
 
@@ -95,6 +95,7 @@ adding_ends asked DoorFault b n input faults ends = absurd ends
 adding_ends asked ConnectionRefused b n input faults ends = absurd ends
 adding_ends asked LotsFault b n input faults ends = absurd ends
 adding_ends asked TurnsDone b n input faults ends = absurd ends
+adding_ends asked BrokenOff b n input faults ends = absurd ends
 
 -- the command asks for one user
 pub adding_as : (command : Command) (own asked : Adding) (status : Status) (b n : AddEnvironment)
@@ -119,3 +120,4 @@ adding_sink_kept asked DoorFault b n ends differ = absurd ends
 adding_sink_kept asked ConnectionRefused b n ends differ = absurd ends
 adding_sink_kept asked LotsFault b n ends differ = absurd ends
 adding_sink_kept asked TurnsDone b n ends differ = absurd ends
+adding_sink_kept asked BrokenOff b n ends differ = absurd ends

@@ -13,21 +13,21 @@ use Rattle.sr_check.specs.declared.task.Task.{Task}
 use Rattle.sr_check.specs.declared.task.Task.TheVariants as task
 use Rattle.sr_check.specs.Stream.{ReadsNoFurther}
 use Rattle.sr_words.specs.declared.commands.Command.{Command}
-use Rattle.sr_words.specs.declared.commands.Command.TheVariants.{Replay, Record, Soak, Check, Convert, Serve, Client, User}
+use Rattle.sr_words.specs.declared.commands.Command.TheVariants.{Replay, Record, Audit, Soak, Check, Convert, Serve, Client, User}
 use Rattle.sr_app.specs.declared.run.Status.{Status}
-use Rattle.sr_app.specs.declared.run.Status.TheVariants.{Done, Usage, Refused, ReadFault, WriteFault, DoorFault, KeeperFault, NoMemory, ConnectionRefused, LotsFault, TurnsDone}
+use Rattle.sr_app.specs.declared.run.Status.TheVariants.{Done, Usage, Refused, ReadFault, WriteFault, DoorFault, KeeperFault, NoMemory, ConnectionRefused, LotsFault, TurnsDone, BrokenOff}
 use Rattle.sr_script.specs.Script.{IsRefusedAt}
 use Rattle.sr_script.specs.Laws.{LongIsRefusedByItsFront}
 use Rattle.sr_soak.specs.declared.totals.Totals.{Totals}
 use Rattle.sr_soak.specs.Soaks.{IsSoak, soak_line}
-use Rattle.sr_app.specs.Run.{soaking, IsReplayed, IsRefused, IsTextAnswer, AnswersWith, Answered, ReadsBounded, Ends, IsEndedOutside, replaying, meaning_of, input_output, code_of, status_of}
+use Rattle.sr_app.specs.Run.{soaking, IsReplayed, IsRefused, IsTextAnswer, AnswersWith, Answered, ReadsBounded, Ends, IsEndedOtherwise, replaying, meaning_of, input_output, code_of, status_of}
 use Rattle.sr_app.proofs.Told.{bytes_of, consumed_nothing, appended_nothing, text_is_told, whole_is_told}
 
 -- ---- statuses, their codes, and how tasks stop
 
 abbrev status_with : ℕ → Status
 status_with n = cond (nat_eq n 0) Done (cond (nat_eq n 1) Usage (cond (nat_eq n 2) Refused (cond (nat_eq n 3) ReadFault (cond (nat_eq n 4) WriteFault (cond (nat_eq n 5) DoorFault (cond (nat_eq n 6) KeeperFault (cond (nat_eq n 7) NoMemory
-    (cond (nat_eq n 8) ConnectionRefused (cond (nat_eq n 9) LotsFault TurnsDone)))))))))
+    (cond (nat_eq n 8) ConnectionRefused (cond (nat_eq n 9) LotsFault (cond (nat_eq n 10) TurnsDone BrokenOff))))))))))
 
 status_with-code_of : (s : Status) → status_with (code_of s) ≡ s
 status_with-code_of Done = refl
@@ -41,13 +41,14 @@ status_with-code_of NoMemory = refl
 status_with-code_of ConnectionRefused = refl
 status_with-code_of LotsFault = refl
 status_with-code_of TurnsDone = refl
+status_with-code_of BrokenOff = refl
 
 -- a code is that of one status
 pub same_status : (s t : Status) → code_of s ≡ code_of t → s ≡ t
 same_status s t e = sym (status_with-code_of s) ∙ ap status_with e ∙ status_with-code_of t
 
 pub is_code : (s : Status) → (code_of s ≡ 0) ⊎ (code_of s ≡ 1) ⊎ (code_of s ≡ 2) ⊎ (code_of s ≡ 3) ⊎ (code_of s ≡ 4) ⊎ (code_of s ≡ 5) ⊎ (code_of s ≡ 6) ⊎ (code_of s ≡ 7)
-    ⊎ (code_of s ≡ 8) ⊎ (code_of s ≡ 9) ⊎ (code_of s ≡ 10)
+    ⊎ (code_of s ≡ 8) ⊎ (code_of s ≡ 9) ⊎ (code_of s ≡ 10) ⊎ (code_of s ≡ 11)
 is_code Done = search rules
 is_code Usage = search rules
 is_code Refused = search rules
@@ -59,6 +60,7 @@ is_code NoMemory = search rules
 is_code ConnectionRefused = search rules
 is_code LotsFault = search rules
 is_code TurnsDone = search rules
+is_code BrokenOff = search rules
 
 abbrev stop_with : Status → Stop
 stop_with Refused = stop.Refused
@@ -88,7 +90,7 @@ not_usage stop.ReadFault is = cc
 not_usage stop.WriteFault is = cc
 not_usage stop.NoMemory is = cc
 
-pub not_ended : (s : Stop) → IsEndedOutside (status_of s) → ⊥
+pub not_ended : (s : Stop) → IsEndedOtherwise (status_of s) → ⊥
 not_ended stop.Refused is = is
 not_ended stop.ReadFault is = is
 not_ended stop.WriteFault is = is
@@ -148,6 +150,7 @@ writes_part law input left before now text answer n NoMemory read ended none app
 writes_part law input left before now text answer n ConnectionRefused read ended none appends = absurd none
 writes_part law input left before now text answer n LotsFault read ended none appends = absurd none
 writes_part law input left before now text answer n TurnsDone read ended none appends = absurd none
+writes_part law input left before now text answer n BrokenOff read ended none appends = absurd none
 
 -- a status is not one with another code
 apart : (result own other : Status) → result ≡ own → (code_of own < code_of other) ⊎ (code_of other < code_of own) → result ≡ other → ⊥
@@ -200,7 +203,7 @@ written_part law input left before now faults faults' sink sink' text answer sta
   read_fault = λ is. absurd (apart result WriteFault ReadFault fault (inr (omega arith)) is);
   write_fault = λ is. (rose, writes_part law input left before now text answer n status w.read w.ended answers part);
   no_memory = λ is. absurd (apart result WriteFault NoMemory fault (inl (omega arith)) is);
-  ended = λ is. absurd (subst IsEndedOutside fault is);
+  ended = λ is. absurd (subst IsEndedOtherwise fault is);
   reads = w.reads;
 }
 
@@ -214,7 +217,7 @@ written_report law input left before now faults faults' sink sink' text answer r
   read_fault = λ is. absurd (apart result Done ReadFault same (inl (omega arith)) is);
   write_fault = λ is. absurd (apart result Done WriteFault same (inl (omega arith)) is);
   no_memory = λ is. absurd (apart result Done NoMemory same (inl (omega arith)) is);
-  ended = λ is. absurd (subst IsEndedOutside same is);
+  ended = λ is. absurd (subst IsEndedOtherwise same is);
   reads = w.reads;
 }
 
@@ -228,7 +231,7 @@ written_refusal law input left before now faults faults' sink sink' text answer 
   read_fault = λ is. absurd (apart result Refused ReadFault same (inl (omega arith)) is);
   write_fault = λ is. absurd (apart result Refused WriteFault same (inl (omega arith)) is);
   no_memory = λ is. absurd (apart result Refused NoMemory same (inl (omega arith)) is);
-  ended = λ is. absurd (subst IsEndedOutside same is);
+  ended = λ is. absurd (subst IsEndedOtherwise same is);
   reads = w.reads;
 }
 
@@ -251,6 +254,7 @@ written_by law input left before now faults faults' sink sink' text answer NoMem
 written_by law input left before now faults faults' sink sink' text answer ConnectionRefused result w answers whole part (inl same) = absurd answers
 written_by law input left before now faults faults' sink sink' text answer LotsFault result w answers whole part (inl same) = absurd answers
 written_by law input left before now faults faults' sink sink' text answer TurnsDone result w answers whole part (inl same) = absurd answers
+written_by law input left before now faults faults' sink sink' text answer BrokenOff result w answers whole part (inl same) = absurd answers
 
 pub replay_written : LongIsRefusedByItsFront → (input left before now : Option (List ℕ)) (faults faults' sink sink' : ℕ) (text : List ℕ) (result : Status)
     → IsWritten input left text → Answered text result before now sink sink' → Ends replaying result (input_output input faults before sink) (input_output left faults' now sink')
@@ -273,6 +277,7 @@ replay_ends law input left before now faults faults' sink sink' text KeeperFault
 replay_ends law input left before now faults faults' sink sink' text ConnectionRefused w a same = replay_written law input left before now faults faults' sink sink' text ConnectionRefused w (a (λ is. cc))
 replay_ends law input left before now faults faults' sink sink' text LotsFault w a same = replay_written law input left before now faults faults' sink sink' text LotsFault w (a (λ is. cc))
 replay_ends law input left before now faults faults' sink sink' text TurnsDone w a same = replay_written law input left before now faults faults' sink sink' text TurnsDone w (a (λ is. cc))
+replay_ends law input left before now faults faults' sink sink' text BrokenOff w a same = replay_written law input left before now faults faults' sink sink' text BrokenOff w (a (λ is. cc))
 replay_ends law input left before now faults faults' sink sink' text WriteFault w a same = replay_written law input left before now faults faults' sink sink' text WriteFault w (a (λ is. cc))
 
 -- a task that reads nothing
@@ -297,6 +302,7 @@ task_reads_nothing waits t input = record {
 pub reads_nothing : EmptyWaits → (command : Command) (input : Option (List ℕ)) → (meaning_of command).reads input input
 reads_nothing waits Replay input = ([], consumed_nothing input, omega arith)
 reads_nothing waits Record input = ([], consumed_nothing input, omega arith)
+reads_nothing waits (Audit side) input = ([], consumed_nothing input, omega arith)
 reads_nothing waits (Soak seed steps) input = refl
 reads_nothing waits (Check codec) input = task_reads_nothing waits (task.Check codec) input
 reads_nothing waits (Convert from to) input = task_reads_nothing waits (task.Convert from to) input
@@ -315,7 +321,7 @@ soak_done seed steps totals input before now faults sink sink' result is whole s
   read_fault = λ other. absurd (apart result Done ReadFault same (inl (omega arith)) other);
   write_fault = λ other. absurd (apart result Done WriteFault same (inl (omega arith)) other);
   no_memory = λ other. absurd (apart result Done NoMemory same (inl (omega arith)) other);
-  ended = λ is. absurd (subst IsEndedOutside same is);
+  ended = λ is. absurd (subst IsEndedOtherwise same is);
   reads = refl;
 }
 
@@ -330,7 +336,7 @@ soak_part seed steps totals input before now faults sink sink' result is rose n 
   write_fault = λ same.
       (rose, (bytes_of input, soak_line seed steps totals, text_is_told input, record { totals = totals; is_soak = is; line_is = refl }, (n, part)));
   no_memory = λ other. absurd (apart result WriteFault NoMemory same (inl (omega arith)) other);
-  ended = λ is. absurd (subst IsEndedOutside same is);
+  ended = λ is. absurd (subst IsEndedOtherwise same is);
   reads = refl;
 }
 
@@ -343,6 +349,6 @@ soak_forgone seed steps input before now faults sink sink' result kept same = re
   read_fault = λ other. absurd (apart result NoMemory ReadFault same (inr (omega arith)) other);
   write_fault = λ other. absurd (apart result NoMemory WriteFault same (inr (omega arith)) other);
   no_memory = λ same. (bytes_of input, [], text_is_told input, refl, subst (λ held. Appends before held []) (sym kept) (appended_nothing before));
-  ended = λ is. absurd (subst IsEndedOutside same is);
+  ended = λ is. absurd (subst IsEndedOtherwise same is);
   reads = refl;
 }

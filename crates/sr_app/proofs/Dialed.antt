@@ -27,8 +27,8 @@ use Rattle.sr_words.specs.declared.commands.Command.{Command}
 use Rattle.sr_words.specs.declared.commands.Command.TheVariants.{Client}
 use Rattle.sr_words.specs.declared.dialing.Dialing.{Dialing}
 use Rattle.sr_app.specs.declared.run.Status.{Status}
-use Rattle.sr_app.specs.declared.run.Status.TheVariants.{Done, Usage, Refused, ReadFault, WriteFault, DoorFault, KeeperFault, NoMemory, ConnectionRefused, LotsFault, TurnsDone}
-use Rattle.sr_app.specs.Run.{DialEnvironment, Ends, EndsDialing, EndsUndialed, HasDialed, IsAskedFor, IsEndedOutside, IsNoScript, IsPrinted, ReadsBounded, dial_environment, dialing, input_output, status_of_run}
+use Rattle.sr_app.specs.declared.run.Status.TheVariants.{Done, Usage, Refused, ReadFault, WriteFault, DoorFault, KeeperFault, NoMemory, ConnectionRefused, LotsFault, TurnsDone, BrokenOff}
+use Rattle.sr_app.specs.Run.{DialEnvironment, Ends, EndsDialing, EndsUndialed, HasDialed, IsAskedFor, IsEndedOtherwise, IsNoScript, IsPrinted, ReadsBounded, dial_environment, dialing, input_output, status_of_run}
 use Rattle.sr_app.proofs.Told.{appended_nothing, bytes_of, text_is_told, whole_is_told}
 
 -- ---- the status of a run
@@ -39,6 +39,7 @@ IsOfNoRun Usage = Unit {0}
 IsOfNoRun Refused = Unit {0}
 IsOfNoRun ReadFault = Unit {0}
 IsOfNoRun KeeperFault = Unit {0}
+IsOfNoRun BrokenOff = Unit {0}
 IsOfNoRun status = ⊥
 
 run_has : (ran : Result Unit ClientError) → IsOfNoRun (status_of_run ran) → ⊥
@@ -176,6 +177,7 @@ undialed_told law KeeperFault input left text b n r none = absurd none
 undialed_told law ConnectionRefused input left text b n r none = absurd none
 undialed_told law LotsFault input left text b n r none = absurd none
 undialed_told law TurnsDone input left text b n r none = absurd none
+undialed_told law BrokenOff input left text b n r none = absurd none
 
 pub ends_told : LongIsRefusedByItsFront → (asked : Dialing) (status : Status) (Goes : List DoorCall → Type 0) (IsUndialed : Type 0) (input left : Option (List ℕ)) (text : List ℕ) (b n : DialEnvironment)
     → IsRead input left text → EndsDialing asked status Goes IsUndialed (Some text) b n → EndsDialing asked status Goes IsUndialed input b n
@@ -259,6 +261,7 @@ undialed_ends asked KeeperFault input left faults faults' b n reads rose none = 
 undialed_ends asked ConnectionRefused input left faults faults' b n reads rose none = absurd none
 undialed_ends asked LotsFault input left faults faults' b n reads rose none = absurd none
 undialed_ends asked TurnsDone input left faults faults' b n reads rose none = absurd none
+undialed_ends asked BrokenOff input left faults faults' b n reads rose none = absurd none
 
 -- ---- faults
 
@@ -324,6 +327,7 @@ undialed_kept KeeperFault input b n none = absurd none
 undialed_kept ConnectionRefused input b n none = absurd none
 undialed_kept LotsFault input b n none = absurd none
 undialed_kept TurnsDone input b n none = absurd none
+undialed_kept BrokenOff input b n none = absurd none
 
 pub dialing_output_kept : (asked : Dialing) (status : Status) (Goes : List DoorCall → Type 0) (IsUndialed : Type 0) (input : Option (List ℕ)) (b n : DialEnvironment)
     → EndsDialing asked status Goes IsUndialed input b n → (status ≡ WriteFault → ⊥) → n.failed.output ≡ b.failed.output

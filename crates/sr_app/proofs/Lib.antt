@@ -2,6 +2,7 @@ pub mod Answering
 pub mod Told
 pub mod WholeTexts
 pub mod Recorded
+pub mod Audited
 pub mod Served
 pub mod Dialed
 pub mod Added

@@ -7,7 +7,7 @@ use Rattle.hd_facts.specs.Counts.{one_more}
 use Rattle.hd_facts.specs.Writes.{IsText}
 use Rattle.sr_app.specs.declared.run.Status.{Status}
 use Rattle.sr_app.specs.declared.run.Status.TheVariants.{Done, Usage, Refused, ReadFault, WriteFault, NoMemory}
-use Rattle.sr_app.specs.Run.{Answers, Meaning, ReadsBounded, HasAnswered, Ends, IsEndedOutside, input_output}
+use Rattle.sr_app.specs.Run.{Answers, Meaning, ReadsBounded, HasAnswered, Ends, IsEndedOtherwise, input_output}
 use Rattle.sr_app.proofs.Told.{bytes_of, appended_nothing, text_is_told}
 
 -- what is answered to a text of more bytes is answered with more bytes after it

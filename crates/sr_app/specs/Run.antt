@@ -1,17 +1,28 @@
 -- What the program does with its words and its input, where the source and the sink tell their bytes.
-use Rattle.std.specs.Prelude.{◌≡◌, ◌≢◌, ◌≤◌, ◌+◌, ℕ, Bool, true, false, List, [], ◌∷◌, ◌++◌, length, take, codes, String, Option, option_map, is_none, IfSome, ◌⊎◌, Result, Ok, Err, IfOk}
+use Rattle.std.specs.Prelude.{◌≡◌, ◌≢◌, ◌≤◌, ◌+◌, ℕ, Bool, true, false, List, [], ◌∷◌, ◌++◌, length, take, codes, String, Option, None, Some, option_map, is_none, IfSome, ◌⊎◌, Result, Ok, Err, IfOk}
 use Rattle.std.specs.Io.KnownBytes.{Appends, Consumes, IsAtEnd}
 use Rattle.std.specs.declared.alloc.Global.{Global}
+use Rattle.ha_audit.specs.AloneVerdict.{IsAuditedAlone}
+use Rattle.ha_audit.specs.AuditVerdict.{IsAudited}
+use Rattle.ha_audit.specs.Grammar.{most_trace}
+use Rattle.ha_audit.specs.Reading.{TraceText}
+use Rattle.ha_audit.specs.Reading as audit
+use Rattle.ha_audit.specs.VerdictLines.{verdict_alone_line, verdict_line}
+use Rattle.hd_delivery.specs.declared.vocabulary.Side.{Side}
 use Rattle.hd_facts.specs.Counts.{one_more}
 use Rattle.hd_facts.specs.Unique.{IsTheOne}
 use Rattle.hd_facts.specs.Writes.{IsText, Writes, WritesPart, WritesOfRead}
+use Rattle.hd_trace.specs.declared.verdict.Verdict.{Verdict}
+use Rattle.hd_trace.specs.declared.verdict.Verdict.TheVariants as both
+use Rattle.hd_trace.specs.declared.verdict.VerdictAlone.{VerdictAlone}
+use Rattle.hd_trace.specs.declared.verdict.VerdictAlone.TheVariants as alone
 use Rattle.hd_rooms.specs.declared.vocabulary.Asked.{Asked}
 use Rattle.hd_rooms.specs.declared.vocabulary.Asked.TheVariants.{AddUser}
 use Rattle.hd_rooms.specs.Kept.{Content, name_of, with_user}
 use Rattle.hd_client.specs.declared.order.Order.{Order}
 use Rattle.hd_client.specs.Setups.{Setup}
 use Rattle.sr_app.specs.declared.run.Status.{Status}
-use Rattle.sr_app.specs.declared.run.Status.TheVariants.{Done, Usage, Refused, ReadFault, WriteFault, DoorFault, KeeperFault, NoMemory, ConnectionRefused, LotsFault, TurnsDone}
+use Rattle.sr_app.specs.declared.run.Status.TheVariants.{Done, Usage, Refused, ReadFault, WriteFault, DoorFault, KeeperFault, NoMemory, ConnectionRefused, LotsFault, TurnsDone, BrokenOff}
 use Rattle.hk_keeper.specs.Calls.{HasFaultCause, IsNoted}
 use Rattle.hk_keeper.specs.declared.keeper.KeepError.{KeepError}
 use Rattle.hk_keeper.specs.declared.keeper.KeepError.TheVariants as keep
@@ -29,7 +40,7 @@ use Rattle.sr_check.specs.declared.task.Stop.{Stop}
 use Rattle.sr_check.specs.declared.task.Stop.TheVariants as stop
 use Rattle.sr_check.specs.Stream.{IsDone, IsStopped, IsBegun, IsAllSoFar, IsPart, ReadsNoFurther, most_piece}
 use Rattle.sr_words.specs.declared.commands.Command.{Command}
-use Rattle.sr_words.specs.declared.commands.Command.TheVariants.{Replay, Record, Soak, Check, Convert, Serve, Client, User}
+use Rattle.sr_words.specs.declared.commands.Command.TheVariants.{Replay, Record, Audit, Soak, Check, Convert, Serve, Client, User}
 use Rattle.sr_words.specs.declared.adding.Adding.{Adding}
 use Rattle.sr_words.specs.declared.serving.Serving.{Serving}
 use Rattle.sr_words.specs.declared.dialing.Dialing.{Dialing}
@@ -46,7 +57,7 @@ use Rattle.sr_client.specs.Running.{Faults, HasRun, IsCausedBy, IsSetup, WentSo,
 use Rattle.sr_script.specs.declared.script.ScriptError.TheVariants.{Line}
 
 abbrev pub usage_line : List ℕ
-usage_line = codes "usage: sr replay, soak, serve, client, check, convert, user or record\n"
+usage_line = codes "usage: sr replay, soak, serve, client, check, convert, user, record or audit\n"
 
 -- the exit status, as the shell has it
 abbrev pub code_of : Status → ℕ
@@ -61,15 +72,18 @@ code_of NoMemory = 7
 code_of ConnectionRefused = 8
 code_of LotsFault = 9
 code_of TurnsDone = 10
+code_of BrokenOff = 11
 
--- what is outside ended it: the door or the dialer, the keeper, the other side, the lots, or the number of its turns
-abbrev pub IsEndedOutside : Status → Type 0
-IsEndedOutside DoorFault = Unit {0}
-IsEndedOutside KeeperFault = Unit {0}
-IsEndedOutside ConnectionRefused = Unit {0}
-IsEndedOutside LotsFault = Unit {0}
-IsEndedOutside TurnsDone = Unit {0}
-IsEndedOutside status = ⊥
+-- It ended in one of these ways: by what is outside, which is the door or the dialer, the keeper, the other side or the lots, by the number of its
+-- turns, or because a trace breaks off
+abbrev pub IsEndedOtherwise : Status → Type 0
+IsEndedOtherwise DoorFault = Unit {0}
+IsEndedOtherwise KeeperFault = Unit {0}
+IsEndedOtherwise ConnectionRefused = Unit {0}
+IsEndedOtherwise LotsFault = Unit {0}
+IsEndedOtherwise TurnsDone = Unit {0}
+IsEndedOtherwise BrokenOff = Unit {0}
+IsEndedOtherwise status = ⊥
 
 -- ---- what a command means
 
@@ -91,9 +105,9 @@ pub record Meaning : Type 1 where
   pub read : Answers
   -- what the input has left before and after
   pub reads : Option (List ℕ) → Option (List ℕ) → Type 0
-  -- what it has left once the command is done, or is ended from outside
+  -- what it has left once the command is done, or ended with a status of its own
   pub leaves : Option (List ℕ) → Type 0
-  -- what is outside ended it with this status: what was written until then
+  -- it ended otherwise, with this status: what was written until then
   pub ended : Status → Answers
 
 -- the text is a script, which asks for one program, and this is a report of that: the one there is, if it has no peers
@@ -180,6 +194,50 @@ pub record IsRefusedToRecord (text answer : List ℕ) : Type 0 where
 -- A recording writes of each action once it is done.
 abbrev pub recording : Meaning
 recording = of_text most_script IsRecorded IsRefusedToRecord IsRecordedFront
+
+-- the status that goes with a verdict
+abbrev pub status_of_verdict : Verdict → Status
+status_of_verdict (both.World client server still) = Done
+status_of_verdict (both.Breaks number rule) = BrokenOff
+
+abbrev pub status_of_verdict_alone : VerdictAlone → Status
+status_of_verdict_alone (alone.History counts) = Done
+status_of_verdict_alone (alone.Breaks number rule) = BrokenOff
+
+-- the trace, of both ends or of the one that is named, comes to a verdict with this status and this line
+abbrev pub ComesToLine : Option Side → TraceText → Status → List ℕ → Type 0
+ComesToLine None trace status line = (verdict : Verdict) × IsAudited trace verdict × (status ≡ status_of_verdict verdict) × (line ≡ verdict_line verdict)
+ComesToLine (Some side) trace status line =
+    (verdict : VerdictAlone) × IsAuditedAlone side trace verdict × (status ≡ status_of_verdict_alone verdict) × (line ≡ verdict_alone_line side verdict)
+
+-- the text is such a trace, and this is the line of its verdict
+pub record IsJudged (side : Option Side) (status : Status) (text line : List ℕ) : Type 0 where
+  pub trace : TraceText
+  pub parsed : audit.Parses side text trace
+  pub comes : ComesToLine side trace status line
+
+-- the text is none, and this is its refusal
+pub record IsNoTrace (side : Option Side) (text answer : List ℕ) : Type 0 where
+  pub number : ℕ
+  pub first : IsTheOne (audit.IsRefusedAt side text) number
+  pub line : answer ≡ refusal_line number
+
+-- the answer to a text, whether it is a trace or not
+abbrev pub IsAuditAnswer : Option Side → Answers
+IsAuditAnswer side text answer = ((status : Status) × IsJudged side status text answer) ⊎ IsNoTrace side text answer
+
+-- An audit writes nothing before its verdict is known.
+abbrev pub auditing : Option Side → Meaning
+auditing side = record {
+  done = IsJudged side Done;
+  refused = IsNoTrace side;
+  part = IsAuditAnswer side;
+  begun = IsNothing;
+  read = IsNothing;
+  reads = ReadsBounded most_trace;
+  leaves = IsAtEnd;
+  ended = IsJudged side;
+}
 
 -- A task over frames writes of each frame before it has read the next piece.
 abbrev pub doing : Task → Meaning
@@ -313,6 +371,7 @@ adding = record {
 abbrev pub meaning_of : Command → Meaning
 meaning_of Replay = replaying
 meaning_of Record = recording
+meaning_of (Audit side) = auditing side
 meaning_of (Soak seed steps) = soaking seed steps
 meaning_of (Check codec) = doing (task.Check codec)
 meaning_of (Convert from to) = doing (task.Convert from to)
@@ -352,6 +411,7 @@ DrawsNothing command status = Unit {0}
 -- the command writes its whole answer at once, once it is known
 abbrev pub WritesOnce : Command → Type 0
 WritesOnce Replay = Unit {0}
+WritesOnce (Audit side) = Unit {0}
 WritesOnce (Soak seed steps) = Unit {0}
 WritesOnce (User asked) = Unit {0}
 WritesOnce command = ⊥
@@ -376,7 +436,7 @@ pub record HasAnswered (m : Meaning) (text : List ℕ) (result : Status) (before
   pub write_fault : result ≡ WriteFault → (faults' ≡ one_more faults)
       × ((answer : List ℕ) × m.part text answer × ((n : ℕ) × Appends before now (take n answer)))
   pub no_memory : result ≡ NoMemory → (answer : List ℕ) × m.begun text answer × Appends before now answer
-  pub ended : IsEndedOutside result → (answer : List ℕ) × m.ended result text answer × Appends before now answer
+  pub ended : IsEndedOtherwise result → (answer : List ℕ) × m.ended result text answer × Appends before now answer
 
 -- What the source has left and the sink holds, where they tell it, and how often each has failed.
 pub record InputOutput : Type 0 where
@@ -399,7 +459,7 @@ pub record Ends (m : Meaning) (status : Status) (before now : InputOutput) : Typ
   pub write_fault : status ≡ WriteFault → (now.sink_faults ≡ one_more before.sink_faults)
       × WritesPart m.part before.left before.holds now.holds
   pub no_memory : status ≡ NoMemory → Writes m.begun before.left before.holds now.holds
-  pub ended : IsEndedOutside status → m.leaves now.left × Writes (m.ended status) before.left before.holds now.holds
+  pub ended : IsEndedOtherwise status → m.leaves now.left × Writes (m.ended status) before.left before.holds now.holds
   pub reads : m.reads before.left now.left
 
 -- No fault is passed over: a count of faults rises only if the status tells of that fault, and then by one (`Ends`).

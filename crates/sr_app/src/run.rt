@@ -1,21 +1,25 @@
 //! What the program does: the command that its words ask for, from its input to its exit status.
 
-ghost use Rattle.std.specs.Prelude.{◌≡◌, ◌≢◌, ◌≤◌, ◌+◌, ◌⊎◌, ℕ, IfOk, Err, List, [], Option, Some, length, take};
+ghost use Rattle.std.specs.Prelude.{◌≡◌, ◌≢◌, ◌≤◌, ◌+◌, ◌⊎◌, ℕ, IfOk, Err, List, [], Option, None, Some, length, take};
 ghost use Rattle.std.specs.Io.KnownBytes.{Appends, Consumes, IsAtEnd};
+ghost use Rattle.hd_delivery.specs.declared.vocabulary.Side.{Side};
 ghost use Rattle.hd_facts.specs.Counts.{one_more};
 ghost use Rattle.hd_facts.specs.Writes.{Writes, WritesOfRead};
 ghost use Rattle.sr_check.specs.Stream.{IsTouchedByBytesAlone, most_piece};
 ghost use Rattle.sr_words.specs.Words.{Asks, IsNoCommand};
 ghost use Rattle.sr_words.specs.declared.adding.Adding.{Adding};
-ghost use Rattle.sr_words.specs.declared.commands.Command.TheVariants.{Client, Serve, User};
+ghost use Rattle.sr_words.specs.declared.commands.Command.TheVariants.{Audit, Client, Serve, User};
 ghost use Rattle.sr_words.specs.declared.dialing.Dialing.{Dialing};
 ghost use Rattle.sr_words.specs.declared.serving.Serving.{Serving};
 ghost use Rattle.hub_server.specs.Steps.{outside};
 ghost use Rattle.sr_serve.specs.Serving.{environment, serving_line};
 ghost use Rattle.sr_client.specs.Running.{faults};
-ghost use Rattle.sr_app.specs.Run.{Answered, AsksFor, DialsNothing, DrawsNothing, Ends, EndsAdding, EndsDialing, EndsServing, HasAnswered, IsEndedOutside, KeepsNothing, ReadsBounded, ReadsNothing, ServesNothing, TellsFaults, WritesOnce, WritesPartFor, add_environment, adding_line, code_of, dial_environment, dialing, doing, meaning_of, input_output, recording, replaying, soaking, usage_line};
+ghost use Rattle.sr_app.specs.Run.{Answered, AsksFor, DialsNothing, DrawsNothing, Ends, EndsAdding, EndsDialing, EndsServing, HasAnswered, IsEndedOtherwise, KeepsNothing, ReadsBounded, ReadsNothing, ServesNothing, TellsFaults, WritesOnce, WritesPartFor, add_environment, adding_line, auditing, code_of, dial_environment, dialing, doing, meaning_of, input_output, recording, replaying, soaking, usage_line};
 ghost use Rattle.sr_script.specs.Script.{refusal_line};
 
+use ha_audit::{MOST_TRACE, TraceError, audit, audit_alone, verdict_alone_line, verdict_line};
+use hd_delivery::Side;
+use hd_trace::{Verdict, VerdictAlone};
 use hf_split::empty_waits;
 use hk_keeper::{KeepError, Keeper};
 use hw_door::{Dialer, Door, Lots};
@@ -32,7 +36,7 @@ use sr_soak::soak;
 use sr_words::{Adding, Command, Dialing, Serving, WordsError};
 use std::alloc::{AllocError, Global};
 
-const USAGE: &[u8] = b"usage: sr replay, soak, serve, client, check, convert, user or record\n";
+const USAGE: &[u8] = b"usage: sr replay, soak, serve, client, check, convert, user, record or audit\n";
 
 /// What `user` writes of a user whom the keeper didn't have.
 const ADDED: &[u8] = b"added\n";
@@ -40,7 +44,7 @@ const ADDED: &[u8] = b"added\n";
 /// What `user` writes if the keeper has a user with this token already.
 const KNOWN: &[u8] = b"known\n";
 
-/// How many bytes of a script are read at a time.
+/// How many bytes of a script or a trace are read at a time.
 const PIECE: usize = 4096;
 
 /// How a command ended, by its exit status.
@@ -57,6 +61,7 @@ pub(crate) enum Status {
     ConnectionRefused = 8,
     LotsFault = 9,
     TurnsDone = 10,
+    BrokenOff = 11,
 }
 
 impl Status {
@@ -120,7 +125,7 @@ fn write<K: Sink>(out: &mut K, bytes: &[u8], status: Status) -> Status
     }
 }
 
-/// Writes that a text is no script, by the number of its first line that is refused.
+/// Writes that a text is no script, or no trace, by the number of its first line that is refused.
 fn refuse<K: Sink>(alloc: Global, number: u64, out: &mut K) -> Status
     ensures same { (result ≡ Status.Refused) ⊎ (result ≡ Status.WriteFault) ⊎ (result ≡ Status.NoMemory) }
     ensures whole { result ≡ Status.Refused → Appends (K.holds out.old) (K.holds out.new) (refusal_line number) }
@@ -207,6 +212,116 @@ fn run_record<S: Source, K: Sink>(alloc: Global, input: &mut S, out: &mut K) -> 
     long_is_refused_by_its_front_without_peers();
     match read_all(alloc, MOST_SCRIPT, input) {
         Ok(text) => record_text(alloc, &text, out),
+        Err(ReadError::Failed) => Status::ReadFault,
+        Err(ReadError::NoMemory) => Status::NoMemory,
+    }
+}
+
+impl From<Verdict> for Status {
+    ghost use Rattle.std.specs.Prelude.{◌≡◌};
+    ghost use Rattle.sr_app.specs.Run.{status_of_verdict};
+
+    ghost from_gives = { λ verdict status. status ≡ status_of_verdict verdict };
+
+    fn from(verdict: Verdict) -> Status {
+        match verdict {
+            Verdict::World { .. } => Status::Done,
+            Verdict::Breaks { .. } => Status::BrokenOff,
+        }
+    }
+}
+
+impl From<VerdictAlone> for Status {
+    ghost use Rattle.std.specs.Prelude.{◌≡◌};
+    ghost use Rattle.sr_app.specs.Run.{status_of_verdict_alone};
+
+    ghost from_gives = { λ verdict status. status ≡ status_of_verdict_alone verdict };
+
+    fn from(verdict: VerdictAlone) -> Status {
+        match verdict {
+            VerdictAlone::History(_) => Status::Done,
+            VerdictAlone::Breaks { .. } => Status::BrokenOff,
+        }
+    }
+}
+
+/// Judges a trace of two ends, or writes where the text stops being one.
+fn audit_both<K: Sink>(alloc: Global, text: &[u8], out: &mut K) -> Status
+    ensures answered { HasAnswered (auditing None) text.now result (K.holds out.old) (K.holds out.new) (K.faults out.old) (K.faults out.new) }
+    ensures unfailed { result ≢ Status.WriteFault → K.faults out.new ≡ K.faults out.old }
+    ensures touched { result ≢ Status.WriteFault → IsTouchedByBytesAlone K.holds out.old out.new }
+    ensures no_memory { result ≡ Status.NoMemory → out.new ≡ out.old }
+    ensures read { result ≢ Status.ReadFault }
+{
+    let trace = match ha_audit::parse(alloc, text) {
+        Ok(trace) => trace,
+        Err(TraceError::Line(number)) => return refuse(alloc, number, out),
+        Err(TraceError::NoMemory) => return Status::NoMemory,
+    };
+    let Ok(verdict) = audit(alloc, &trace) else {
+        return Status::NoMemory;
+    };
+    match verdict_line(alloc, verdict) {
+        Ok(line) => write(out, line.as_bytes(), Status::from(verdict)),
+        Err(AllocError) => Status::NoMemory,
+    }
+}
+
+/// Judges the trace of this end alone, or writes where the text stops being one.
+fn audit_one<K: Sink>(alloc: Global, side: Side, text: &[u8], out: &mut K) -> Status
+    ensures answered { HasAnswered (auditing (Some side)) text.now result (K.holds out.old) (K.holds out.new) (K.faults out.old) (K.faults out.new) }
+    ensures unfailed { result ≢ Status.WriteFault → K.faults out.new ≡ K.faults out.old }
+    ensures touched { result ≢ Status.WriteFault → IsTouchedByBytesAlone K.holds out.old out.new }
+    ensures no_memory { result ≡ Status.NoMemory → out.new ≡ out.old }
+    ensures read { result ≢ Status.ReadFault }
+{
+    let trace = match ha_audit::parse_alone(alloc, text, side) {
+        Ok(trace) => trace,
+        Err(TraceError::Line(number)) => return refuse(alloc, number, out),
+        Err(TraceError::NoMemory) => return Status::NoMemory,
+    };
+    let Ok(verdict) = audit_alone(alloc, side, &trace) else {
+        return Status::NoMemory;
+    };
+    match verdict_alone_line(alloc, side, verdict) {
+        Ok(line) => write(out, line.as_bytes(), Status::from(verdict)),
+        Err(AllocError) => Status::NoMemory,
+    }
+}
+
+/// Judges a trace of both ends, or of the one that is named.
+fn audit_text<K: Sink>(alloc: Global, side: Option<Side>, text: &[u8], out: &mut K) -> Status
+    ensures answered { HasAnswered (auditing side) text.now result (K.holds out.old) (K.holds out.new) (K.faults out.old) (K.faults out.new) }
+    ensures unfailed { result ≢ Status.WriteFault → K.faults out.new ≡ K.faults out.old }
+    ensures touched { result ≢ Status.WriteFault → IsTouchedByBytesAlone K.holds out.old out.new }
+    ensures no_memory { result ≡ Status.NoMemory → out.new ≡ out.old }
+    ensures read { result ≢ Status.ReadFault }
+{
+    match side {
+        None => audit_both(alloc, text, out),
+        Some(side) => audit_one(alloc, side, text, out),
+    }
+}
+
+/// Judges the trace that the input holds.
+fn run_audit<S: Source, K: Sink>(
+    alloc: Global,
+    side: Option<Side>,
+    input: &mut S,
+    out: &mut K,
+) -> Status
+    ensures ends { Ends (auditing side) result
+        (input_output (S.left input.old) (S.faults input.old) (K.holds out.old) (K.faults out.old))
+        (input_output (S.left input.new) (S.faults input.new) (K.holds out.new) (K.faults out.new)) }
+    ensures faults { TellsFaults result
+        (input_output (S.left input.old) (S.faults input.old) (K.holds out.old) (K.faults out.old))
+        (input_output (S.left input.new) (S.faults input.new) (K.holds out.new) (K.faults out.new)) }
+    ensures touched { result ≢ Status.WriteFault → IsTouchedByBytesAlone K.holds out.old out.new }
+    ensures untouched { (result ≡ Status.ReadFault) ⊎ (result ≡ Status.NoMemory) → out.new ≡ out.old }
+{
+    ha_audit::long_is_refused_by_its_front();
+    match read_all(alloc, MOST_TRACE, input) {
+        Ok(text) => audit_text(alloc, side, &text, out),
         Err(ReadError::Failed) => Status::ReadFault,
         Err(ReadError::NoMemory) => Status::NoMemory,
     }
@@ -471,6 +586,7 @@ fn carry_out<S: Source, K: Sink, D: Door, C: Dialer, R: Keeper, L: Lots>(
     match command {
         Command::Replay => run_replay(alloc, input, out),
         Command::Record => run_record(alloc, input, out),
+        Command::Audit { side } => run_audit(alloc, side, input, out),
         Command::Soak { seed, steps } => run_soak(alloc, seed, steps, out),
         Command::Check { codec } => run_task(alloc, Task::Check { codec }, input, out),
         Command::Convert { from, to } => run_task(alloc, Task::Convert { from, to }, input, out),
@@ -501,6 +617,7 @@ fn carry_out<S: Source, K: Sink, D: Door, C: Dialer, R: Keeper, L: Lots>(
 /// | 8 | `client`: the server refused it or closed the connection, what came can't be read, or the connection was lost for good |
 /// | 9 | `client`: the lots failed |
 /// | 10 | `client`: all its turns were done first |
+/// | 11 | `audit`: the trace breaks off; the line that says where was written |
 ///
 /// A fault of the input ends it with 3 and one of the output with 4: none is passed over. Then one call failed, of that
 /// one, and neither was called after it. One of the door or the dialer ends it with 5: after the first call of it that
@@ -519,7 +636,7 @@ pub fn run<S: Source, K: Sink, D: Door, C: Dialer, R: Keeper, L: Lots>(
     lots: &mut L,
 ) -> u8
     ensures status { (result ≡ 0) ⊎ (result ≡ 1) ⊎ (result ≡ 2) ⊎ (result ≡ 3) ⊎ (result ≡ 4) ⊎ (result ≡ 5) ⊎ (result ≡ 6) ⊎ (result ≡ 7)
-        ⊎ (result ≡ 8) ⊎ (result ≡ 9) ⊎ (result ≡ 10) }
+        ⊎ (result ≡ 8) ⊎ (result ≡ 9) ⊎ (result ≡ 10) ⊎ (result ≡ 11) }
 
     ensures done { result ≡ 0
         → AsksFor words.now (λ m. m.leaves (S.left input.new) × Writes m.done (S.left input.old) (K.holds out.old) (K.holds out.new)) }
@@ -534,7 +651,7 @@ pub fn run<S: Source, K: Sink, D: Door, C: Dialer, R: Keeper, L: Lots>(
         × WritesPartFor words.now (S.left input.old) (K.holds out.old) (K.holds out.new) }
     ensures no_memory { result ≡ 7 → (out.new ≡ out.old)
         ⊎ AsksFor words.now (λ m. Writes m.begun (S.left input.old) (K.holds out.old) (K.holds out.new)) }
-    ensures ended { (status : Status) → IsEndedOutside status → result ≡ code_of status
+    ensures ended { (status : Status) → IsEndedOtherwise status → result ≡ code_of status
         → AsksFor words.now (λ m. m.leaves (S.left input.new) × Writes (m.ended status) (S.left input.old) (K.holds out.old) (K.holds out.new)) }
 
     // What `serve` did, by its status: so 5 comes only if the door's count rose, and 6 only if the keeper's did at the first question.
@@ -565,6 +682,9 @@ pub fn run<S: Source, K: Sink, D: Door, C: Dialer, R: Keeper, L: Lots>(
         (add_environment (R.holds keeper.old) (R.answers keeper.old) (R.faults keeper.old) (K.holds out.old) (K.faults out.old))
         (add_environment (R.holds keeper.new) (R.answers keeper.new) (R.faults keeper.new) (K.holds out.new) (K.faults out.new)) }
     ensures unasked { IsNoCommand words.now ⊎ ((command : Command) × (Asks words.now command × KeepsNothing command)) → keeper.new ≡ keeper.old }
+
+    // Only an audit comes to this: the trace breaks off.
+    ensures audit_status { result ≡ 11 → (side : Option Side) × Asks words.now (Audit side) }
 
     // What two of them may do.
     ensures outside_fault { result ≡ 5

@@ -13,6 +13,9 @@ returns-in-Replay-clause-ends g c = rw c.in-Replay.is c.run_replay.ensures.ends
 pub returns-in-Record-clause-ends : goal.returns-in-Record-clause-ends
 returns-in-Record-clause-ends g c = rw c.in-Record.is c.run_record.ensures.ends
 
+pub returns-in-Audit-clause-ends : goal.returns-in-Audit-clause-ends
+returns-in-Audit-clause-ends g c = rw c.in-Audit.is c.run_audit.ensures.ends
+
 pub returns-in-Soak-clause-ends : goal.returns-in-Soak-clause-ends
 returns-in-Soak-clause-ends g c = rw c.in-Soak.is (c.run_soak.ensures.ends (g.S.Source.left c.args.input.now) (g.S.Source.faults c.args.input.now))
 

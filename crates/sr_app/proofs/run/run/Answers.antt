@@ -2,10 +2,10 @@ use Rattle.std.proofs.Common.{◌∙◌, sym, ap, inl, inr, ⊎_elim, subst, ref
 use Rattle.sr_words.specs.Words.{Asks, IsNoCommand}
 use Rattle.sr_words.specs.declared.commands.Command.TheVariants.{Client, Serve, User}
 use Rattle.sr_serve.specs.declared.serving.ServeError.TheVariants as end
-use Rattle.sr_app.specs.declared.run.Status.TheVariants.{Done, Usage, ReadFault, WriteFault, DoorFault, KeeperFault, NoMemory}
+use Rattle.sr_app.specs.declared.run.Status.TheVariants.{Done, Usage, ReadFault, WriteFault, DoorFault, KeeperFault, NoMemory, BrokenOff}
 use Rattle.sr_app.specs.Run.{DialsNothing, DrawsNothing, KeepsNothing, ReadsNothing, ServesNothing, WritesOnce, code_of}
 use Rattle.sr_app.proofs.Answering.{same_status, is_code, reads_nothing}
-use Rattle.sr_app.proofs.Outside.{client_of, door_or_dialer_of, ended_with, not_by_words, not_in_memory, server_or_user_of}
+use Rattle.sr_app.proofs.Outside.{auditor_of, client_of, door_or_dialer_of, ended_with, not_by_words, not_in_memory, server_or_user_of}
 use Rattle.sr_app.proofs.Told.{appended_nothing}
 use Rattle.sr_app.proofs.run.run.Goals as goal
 
@@ -80,6 +80,12 @@ returns-in-Ok-clause-dial_statuses g c = λ is.
     let dialer = client_of c.in-Ok.command c.carry_out.result _ _ c.carry_out.ensures.ends (⊎_elim (λ refused. inl (sym c.code.ensures ∙ refused))
     (λ other. inr (⊎_elim (λ lots. inl (sym c.code.ensures ∙ lots)) (λ turns. inr (sym c.code.ensures ∙ turns)) other)) is) in
     (dialer.0, subst (Asks c.args.words.now) dialer.1 c.in-Ok.ensures.ok.holds)
+
+pub returns-in-Ok-clause-audit_status : goal.returns-in-Ok-clause-audit_status
+returns-in-Ok-clause-audit_status g c = λ is.
+    let wrote = ended_with _ c.carry_out.result BrokenOff _ _ c.carry_out.ensures.ends (same_status c.carry_out.result BrokenOff (sym c.code.ensures ∙ is)) tt in
+    let auditor = auditor_of c.in-Ok.command _ _ _ wrote.1 in
+    (auditor.0, subst (Asks c.args.words.now) auditor.1 c.in-Ok.ensures.ok.holds)
 
 pub returns-in-Ok-clause-dials : goal.returns-in-Ok-clause-dials
 returns-in-Ok-clause-dials g c = λ asked asks.

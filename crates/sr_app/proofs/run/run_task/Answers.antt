@@ -1,6 +1,6 @@
 use Rattle.std.proofs.Common.{◌≡◌, ◌∙◌, sym, ap, subst}
 use Rattle.sr_check.specs.declared.task.Stop.TheVariants as stop
-use Rattle.sr_app.specs.Run.{IsEndedOutside, status_of}
+use Rattle.sr_app.specs.Run.{IsEndedOtherwise, status_of}
 use Rattle.sr_app.proofs.Answering.{same_stop, not_done, not_usage, not_ended}
 use Rattle.sr_app.proofs.run.run_task.Goals as goal
 
@@ -24,7 +24,7 @@ returns-in-Err-clause-ends g c = record {
   read_fault = λ is. (let same : c.in-Err.stop ≡ stop.ReadFault = same_stop c.in-Err.stop stop.ReadFault (sym c.from.ensures ∙ is) in c.in-Err.ensures.read_fault (cc));
   write_fault = λ is. (let same : c.in-Err.stop ≡ stop.WriteFault = same_stop c.in-Err.stop stop.WriteFault (sym c.from.ensures ∙ is) in c.in-Err.ensures.write_fault (cc));
   no_memory = λ is. (let same : c.in-Err.stop ≡ stop.NoMemory = same_stop c.in-Err.stop stop.NoMemory (sym c.from.ensures ∙ is) in c.in-Err.ensures.no_memory (cc));
-  ended = λ is. absurd (not_ended c.in-Err.stop (subst IsEndedOutside c.from.ensures is));
+  ended = λ is. absurd (not_ended c.in-Err.stop (subst IsEndedOtherwise c.from.ensures is));
   reads = c.run.ensures.no_further;
 }
 
