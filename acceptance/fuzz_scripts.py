@@ -168,8 +168,9 @@ class Lines:
 
 # ---- words
 
-USAGE = 1, b"usage: sr replay, soak, serve, client, check, convert, user or record\n"
+USAGE = 1, b"usage: sr replay, soak, serve, client, check, convert, user, record or audit\n"
 CODECS = "json", "pack"
+SIDES = "client", "server"
 MOST = 2**64 - 1
 LONG = object()  # what would serve, dial or soak for long, or make a file
 MOST_STEPS = 40
@@ -188,6 +189,12 @@ def number(most, least=0):
 
 def codec(word):
     if word not in CODECS:
+        raise Refused
+    return word
+
+
+def side(word):
+    if word not in SIDES:
         raise Refused
     return word
 
@@ -275,6 +282,11 @@ def record(rest):
     return 0, trace_model.record("")[0].encode()
 
 
+def audit(rest):
+    read_words(rest, {"side": [side]}, [])
+    return trace_model.audit(b"")[1], trace_model.audit(b"")[0].encode()
+
+
 def check(rest):
     read_words(rest, {}, [codec])
     return 0, b""
@@ -311,11 +323,12 @@ def user(rest):
     return LONG
 
 
-COMMANDS = {"replay": replay, "record": record, "check": check, "convert": convert, "soak": soak, "serve": serve, "client": client, "user": user}
+COMMANDS = {"replay": replay, "record": record, "audit": audit, "check": check, "convert": convert, "soak": soak, "serve": serve, "client": client, "user": user}
 SERVES = b"serve\n--port\n0\n--base\n/a/b.c\n--listen\n127.0.0.1\n--resend\n1024\n100000\n--live\n100\n--turns\n0"
 CALLS = b"client\nhttp://127.0.0.1:9/hub\n--codec\njson\n--token\nab\n--resend\n1\n32773\n--turns\n0"
 LINES = [SERVES, SERVES, CALLS, CALLS, b"client\n--turns=0\n--codec=pack\n--token=-x\nhttp://localhost/hub", b"serve\n--turns=0\n--listen=::1\n--port=80",
          b"user\nab\nann\n--store=s", b"check\njson", b"check\n--\npack", b"convert\njson\npack", b"convert\npack\njson", b"replay", b"replay\n--", b"record", b"record\n--",
+         b"audit", b"audit\n--side\nclient", b"audit\n--side=server\n--",
          b"soak\n7\n20", b"soak\n--\n+07\n0"]
 
 

@@ -63,7 +63,8 @@ SOAKED = b"seed 1 actions 1 calls 1 endings 1 live 0 links 2\n"
 LONGEST_SOAK = rb"seed 18446744073709551615 actions 100000 calls (\d+) endings \1 live 0 links (\d+)\n"
 SERVES = b"serving 0\n"
 BASE_SAID = "/chat/hub"
-USAGE = b"usage: sr replay, soak, serve, client, check, convert, user or record\n"
+TRACE = b"trace json 2 on 1024 100000 32768\nc detach\n"
+USAGE = b"usage: sr replay, soak, serve, client, check, convert, user, record or audit\n"
 NOTHING = b""
 
 
@@ -265,6 +266,10 @@ CASES = {
     "record, and the input fails behind a script": of_input("record", lambda: broken_off(SCRIPT), (3, NOTHING)),
     "record, and the output is full": of_output("record", SCRIPT, 4),
     "record of no script, and the output is full": of_output("record", b"frob\n", 4),
+    "audit, and the input fails at once": of_input("audit", folder, (3, NOTHING)),
+    "audit, and the input fails behind a trace": of_input("audit --side client", lambda: broken_off(TRACE), (3, NOTHING)),
+    "audit, and the output is full": of_output("audit", TRACE, 4),
+    "audit of no trace, and the output is full": of_output("audit --side server", b"frob\n", 4),
     "replay with a script to its end": (lambda program: run(program, "replay", input=SCRIPT)[:2], (0, REPORT)),
     "check, and the input fails at once": of_input("check json", folder, (3, NOTHING)),
     "check, and the input fails behind two frames": of_input("check json", lambda: broken_off(PINGS), (3, LINES)),
@@ -284,6 +289,7 @@ CASES = {
     "a word that isn't UTF-8": (lambda program: run(program, [b"check", b"json", b"\xff"])[:2], (1, USAGE)),
     "little memory": (little_memory("replay"), (7, NOTHING)),
     "record, and little memory": (little_memory("record"), (7, NOTHING)),
+    "audit, and little memory": (little_memory("audit"), (7, NOTHING)),
     "the longest soak of the greatest seed": (longest_soak, (0, True)),
     "three turns of serve": (lambda program: run(program, "serve --port 0 --turns 3")[:2], (0, SERVES)),
     "serve doesn't read its input": of_input("serve --port 0 --turns 1", folder, (0, SERVES)),

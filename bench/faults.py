@@ -67,11 +67,11 @@ def of_row(path, row, named):
     frame_end = {"check": b"\n", "convert": b"" if words[-1:] == ["pack"] else b"\x1e"}.get(words[0] if words else "", b"")
 
     def may_be_told(status, told, whole):
-        """Of a report or a soak nothing, of a trace nothing before its script was read, of frames what is written of some. An output that fails may
+        """Of a report, a soak or a verdict nothing, of a trace nothing before its script was read, of frames what is written of some. An output that fails may
         have taken any first part, and where memory runs out a first part of a trace may have been written."""
         if status == 4 or (words[:1] == ["record"] and status == 7):
             return first_parts(status, told, whole)
-        if words[:1] in (["replay"], ["soak"], ["record"]):
+        if words[:1] in (["replay"], ["soak"], ["record"], ["audit"]):
             return told[""] == b""
         return first_parts(status, told, whole) and (not told[""] or told[""].endswith(frame_end))
 

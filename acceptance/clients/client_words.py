@@ -9,7 +9,7 @@ import time
 from running import Running
 from stub import Stub
 
-USAGE = 1, ["usage: sr replay, soak, serve, client, check, convert, user or record"]
+USAGE = 1, ["usage: sr replay, soak, serve, client, check, convert, user, record or audit"]
 NO_TURN = 10, []
 MOST_SCRIPT = 1_048_576  # bytes
 LITTLE_MEMORY = "ulimit -d 2048"  # KiB of which a script may take half
