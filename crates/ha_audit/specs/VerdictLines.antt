@@ -29,12 +29,13 @@ still_words false = []
 
 abbrev pub world_line : Counts → Counts → Bool → List ℕ
 world_line client server still =
-    codes "world client sent " ++ (decimal client.sent ++ (codes " processed " ++ (decimal client.processed ++ (codes " server sent " ++ (decimal server.sent
-    ++ (codes " processed " ++ (decimal server.processed ++ (still_words still ++ codes "\n"))))))))
+    codes "world client sent " ++ (decimal client.sent ++ (codes " processed " ++ (decimal client.processed
+    ++ (codes " server sent " ++ (decimal server.sent ++ (codes " processed " ++ (decimal server.processed ++ (still_words still ++ codes "\n"))))))))
 
 abbrev pub history_line : Side → Counts → List ℕ
 history_line side counts =
-    codes "history " ++ (letter side ++ (codes " sent " ++ (decimal counts.sent ++ (codes " processed " ++ (decimal counts.processed ++ codes "\n")))))
+    codes "history " ++ (letter side ++ (codes " sent " ++ (decimal counts.sent
+    ++ (codes " processed " ++ (decimal counts.processed ++ codes "\n")))))
 
 -- the verdict on a trace of two ends
 abbrev pub verdict_line : Verdict → List ℕ

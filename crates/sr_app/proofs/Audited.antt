@@ -4,11 +4,17 @@ use Rattle.std.specs.Io.KnownBytes.{Appends}
 use Rattle.hd_delivery.specs.declared.vocabulary.Side.{Side}
 use Rattle.hd_facts.specs.Counts.{one_more}
 use Rattle.hd_facts.specs.Unique.{IsTheOne}
+use Rattle.hd_trace.specs.declared.trace.TraceLine.{TraceLine}
+use Rattle.hd_trace.specs.Traces.{steps_of}
+use Rattle.hd_trace.specs.Verdicts.{VerdictAloneIsOne}
 use Rattle.hd_trace.specs.declared.verdict.Verdict.{Verdict}
 use Rattle.hd_trace.specs.declared.verdict.Verdict.TheVariants as both
 use Rattle.hd_trace.specs.declared.verdict.VerdictAlone.{VerdictAlone}
 use Rattle.hd_trace.specs.declared.verdict.VerdictAlone.TheVariants as alone
-use Rattle.ha_audit.specs.Laws.{LongIsRefusedByItsFront}
+use Rattle.he_wire.specs.Laws.{HasWire}
+use Rattle.ha_audit.specs.AloneVerdict.{ComesToAlone, IsAuditedAlone}
+use Rattle.ha_audit.specs.AuditVerdict.{setup_of}
+use Rattle.ha_audit.specs.Laws.{LongIsRefusedByItsFront, TracesAreToldOnce}
 use Rattle.ha_audit.specs.Reading.{IsRefusedAt, TraceText}
 use Rattle.sr_script.specs.Script.{refusal_line}
 use Rattle.sr_app.specs.declared.run.Status.{Status}
@@ -40,6 +46,25 @@ line_has (Some side) trace status line comes is = verdict_alone_has comes.0 (sub
 pub not_of_a_verdict : (side : Option Side) (status : Status) → IsOfNoVerdict status → (text line : List ℕ) → IsJudged side status text line → ⊥
 not_of_a_verdict side status is text line judged = line_has side judged.trace status line judged.comes is
 
+-- ---- the verdict on one end's lines
+
+same_verdict : VerdictAloneIsOne → HasWire → (side : Side) (trace : TraceText) (u v : VerdictAlone) (lines : List TraceLine)
+    → ComesToAlone trace.head side (steps_of lines) u → ComesToAlone trace.head side (steps_of lines) v → u ≡ v
+same_verdict one has side trace u v lines x y =
+    let wire = has trace.head.limits.frame in
+    one (setup_of trace.head wire.0) side (steps_of lines) u v (x wire.0 wire.1) (y wire.0 wire.1)
+
+-- a trace of this side comes to one verdict
+pub alone_is_the_one : TracesAreToldOnce → VerdictAloneIsOne → HasWire → (side : Side) (trace : TraceText) (verdict : VerdictAlone)
+    → IsAuditedAlone side trace verdict → IsTheOne (IsAuditedAlone side trace) verdict
+alone_is_the_one once one has side trace verdict is = record {
+  holds = is;
+  only = λ other found.
+      let same : found.0 ≡ is.0 = (once trace.only trace.text trace.head trace.head found.0 is.0 found.1.0 is.1.0).1 in
+      same_verdict one has side trace other verdict is.0
+      (subst (λ (lines : List TraceLine). ComesToAlone trace.head side (steps_of lines) other) same found.1.1) is.1.1;
+}
+
 -- ---- it is a command that reads its text whole
 
 judged_is_short : (side : Option Side) (status : Status) → IsOfShort 67108864 (IsJudged side status)
@@ -49,7 +74,8 @@ refusal_stays : LongIsRefusedByItsFront → (side : Option Side) → StaysOfLong
 refusal_stays law side front more answer long is = record { number = is.number; first = law side front more is.number long is.first; line = is.line }
 
 answer_stays : LongIsRefusedByItsFront → (side : Option Side) → StaysOfLong 67108864 (IsAuditAnswer side)
-answer_stays law side front more answer long (inl is) = inl (is.0, short_stays 67108864 (IsJudged side is.0) (judged_is_short side is.0) front more answer long is.1)
+answer_stays law side front more answer long (inl is) =
+    inl (is.0, short_stays 67108864 (IsJudged side is.0) (judged_is_short side is.0) front more answer long is.1)
 answer_stays law side front more answer long (inr is) = inr (refusal_stays law side front more answer long is)
 
 pub auditing_is_of_text : LongIsRefusedByItsFront → (side : Option Side) → IsOfText 67108864 (auditing side)
@@ -66,8 +92,8 @@ auditing_is_of_text law side = record {
 
 -- ---- what it answers to its text
 
-judged_done : (side : Option Side) (text line : List ℕ) (before now : Option (List ℕ)) (faults faults' : ℕ) → IsJudged side Done text line → Appends before now line
-    → HasAnswered (auditing side) text Done before now faults faults'
+judged_done : (side : Option Side) (text line : List ℕ) (before now : Option (List ℕ)) (faults faults' : ℕ) → IsJudged side Done text line
+    → Appends before now line → HasAnswered (auditing side) text Done before now faults faults'
 judged_done side text line before now faults faults' is whole = record {
   done = λ same. (line, is, whole);
   usage = λ other. cc;
@@ -78,8 +104,8 @@ judged_done side text line before now faults faults' is whole = record {
   ended = λ other. absurd other;
 }
 
-judged_broken : (side : Option Side) (text line : List ℕ) (before now : Option (List ℕ)) (faults faults' : ℕ) → IsJudged side BrokenOff text line → Appends before now line
-    → HasAnswered (auditing side) text BrokenOff before now faults faults'
+judged_broken : (side : Option Side) (text line : List ℕ) (before now : Option (List ℕ)) (faults faults' : ℕ) → IsJudged side BrokenOff text line
+    → Appends before now line → HasAnswered (auditing side) text BrokenOff before now faults faults'
 judged_broken side text line before now faults faults' is whole = record {
   done = λ other. cc;
   usage = λ other. cc;
@@ -91,8 +117,8 @@ judged_broken side text line before now faults faults' is whole = record {
 }
 
 -- the output failed after a first part
-audited_part : (side : Option Side) (text line : List ℕ) (before now : Option (List ℕ)) (faults faults' : ℕ) → IsAuditAnswer side text line → faults' ≡ one_more faults
-    → (n : ℕ) → Appends before now (take n line) → HasAnswered (auditing side) text WriteFault before now faults faults'
+audited_part : (side : Option Side) (text line : List ℕ) (before now : Option (List ℕ)) (faults faults' : ℕ) → IsAuditAnswer side text line
+    → faults' ≡ one_more faults → (n : ℕ) → Appends before now (take n line) → HasAnswered (auditing side) text WriteFault before now faults faults'
 audited_part side text line before now faults faults' is rose n part = record {
   done = λ other. cc;
   usage = λ other. cc;
@@ -116,8 +142,8 @@ audited_nothing side text before now faults faults' same = record {
   ended = λ other. absurd other;
 }
 
-refused_whole : (side : Option Side) (text : List ℕ) (before now : Option (List ℕ)) (faults faults' number : ℕ) → IsTheOne (IsRefusedAt side text) number
-    → Appends before now (refusal_line number) → HasAnswered (auditing side) text Refused before now faults faults'
+refused_whole : (side : Option Side) (text : List ℕ) (before now : Option (List ℕ)) (faults faults' number : ℕ)
+    → IsTheOne (IsRefusedAt side text) number → Appends before now (refusal_line number) → HasAnswered (auditing side) text Refused before now faults faults'
 refused_whole side text before now faults faults' number first whole = record {
   done = λ other. cc;
   usage = λ other. cc;
@@ -132,7 +158,8 @@ refused_whole side text before now faults faults' number first whole = record {
 pub refused_to_audit : (side : Option Side) (text : List ℕ) (result : Status) (before now : Option (List ℕ)) (faults faults' number : ℕ)
     → IsTheOne (IsRefusedAt side text) number → (result ≡ Refused) ⊎ (result ≡ WriteFault) ⊎ (result ≡ NoMemory)
     → (result ≡ Refused → Appends before now (refusal_line number))
-    → (result ≡ WriteFault → (faults' ≡ one_more faults) × ((n : ℕ) × Appends before now (take n (refusal_line number)))) → (result ≡ NoMemory → now ≡ before)
+    → (result ≡ WriteFault → (faults' ≡ one_more faults) × ((n : ℕ) × Appends before now (take n (refusal_line number))))
+    → (result ≡ NoMemory → now ≡ before)
     → HasAnswered (auditing side) text result before now faults faults'
 refused_to_audit side text result before now faults faults' number first (inl is) whole part none =
     subst (λ status. HasAnswered (auditing side) text status before now faults faults') (sym is)
@@ -140,13 +167,15 @@ refused_to_audit side text result before now faults faults' number first (inl is
 refused_to_audit side text result before now faults faults' number first (inr (inl is)) whole part none =
     let p = part is in
     subst (λ status. HasAnswered (auditing side) text status before now faults faults') (sym is)
-    (audited_part side text (refusal_line number) before now faults faults' (inr (record { number = number; first = first; line = refl })) p.0 p.1.0 p.1.1)
+    (audited_part side text (refusal_line number) before now faults faults'
+    (inr (record { number = number; first = first; line = refl })) p.0 p.1.0 p.1.1)
 refused_to_audit side text result before now faults faults' number first (inr (inr is)) whole part none =
-    subst (λ status. HasAnswered (auditing side) text status before now faults faults') (sym is) (audited_nothing side text before now faults faults' (none is))
+    subst (λ status. HasAnswered (auditing side) text status before now faults faults') (sym is)
+    (audited_nothing side text before now faults faults' (none is))
 
 -- a verdict with this status was written whole
-judged_whole : (side : Option Side) (status : Status) (text line : List ℕ) (before now : Option (List ℕ)) (faults faults' : ℕ) → IsJudged side status text line
-    → Appends before now line → HasAnswered (auditing side) text status before now faults faults'
+judged_whole : (side : Option Side) (status : Status) (text line : List ℕ) (before now : Option (List ℕ)) (faults faults' : ℕ)
+    → IsJudged side status text line → Appends before now line → HasAnswered (auditing side) text status before now faults faults'
 judged_whole side Done text line before now faults faults' is whole = judged_done side text line before now faults faults' is whole
 judged_whole side BrokenOff text line before now faults faults' is whole = judged_broken side text line before now faults faults' is whole
 judged_whole side Usage text line before now faults faults' is whole = absurd (not_of_a_verdict side Usage tt text line is)
@@ -161,8 +190,8 @@ judged_whole side LotsFault text line before now faults faults' is whole = absur
 judged_whole side TurnsDone text line before now faults faults' is whole = absurd (not_of_a_verdict side TurnsDone tt text line is)
 
 -- a verdict with this status was written, or a first part of it
-pub judged : (side : Option Side) (status result : Status) (text line : List ℕ) (before now : Option (List ℕ)) (faults faults' : ℕ) → IsJudged side status text line
-    → (result ≡ status) ⊎ (result ≡ WriteFault) → (result ≡ status → Appends before now line)
+pub judged : (side : Option Side) (status result : Status) (text line : List ℕ) (before now : Option (List ℕ)) (faults faults' : ℕ)
+    → IsJudged side status text line → (result ≡ status) ⊎ (result ≡ WriteFault) → (result ≡ status → Appends before now line)
     → (result ≡ WriteFault → (faults' ≡ one_more faults) × ((n : ℕ) × Appends before now (take n line)))
     → HasAnswered (auditing side) text result before now faults faults'
 judged side status result text line before now faults faults' is (inl same) whole part =

@@ -204,11 +204,13 @@ abbrev pub status_of_verdict_alone : VerdictAlone → Status
 status_of_verdict_alone (alone.History counts) = Done
 status_of_verdict_alone (alone.Breaks number rule) = BrokenOff
 
--- the trace, of both ends or of the one that is named, comes to a verdict with this status and this line
+-- the one verdict to which the trace comes, of both ends or of the one that is named, has this status and this line
 abbrev pub ComesToLine : Option Side → TraceText → Status → List ℕ → Type 0
-ComesToLine None trace status line = (verdict : Verdict) × IsAudited trace verdict × (status ≡ status_of_verdict verdict) × (line ≡ verdict_line verdict)
+ComesToLine None trace status line =
+    (verdict : Verdict) × IsTheOne (IsAudited trace) verdict × (status ≡ status_of_verdict verdict) × (line ≡ verdict_line verdict)
 ComesToLine (Some side) trace status line =
-    (verdict : VerdictAlone) × IsAuditedAlone side trace verdict × (status ≡ status_of_verdict_alone verdict) × (line ≡ verdict_alone_line side verdict)
+    (verdict : VerdictAlone) × IsTheOne (IsAuditedAlone side trace) verdict × (status ≡ status_of_verdict_alone verdict)
+    × (line ≡ verdict_alone_line side verdict)
 
 -- the text is such a trace, and this is the line of its verdict
 pub record IsJudged (side : Option Side) (status : Status) (text line : List ℕ) : Type 0 where

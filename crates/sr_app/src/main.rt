@@ -1,5 +1,5 @@
-//! The program `sr`: it replays scripts over two ends, records them and judges traces, checks and converts frames of messages, serves hubs, is a client of them, and adds
-//! users to a store.
+//! The program `sr`: it replays scripts over two ends, records them and judges traces, checks and converts frames of messages, serves hubs, is a
+//! client of them, and adds users to a store.
 #![tactic(auto)]
 
 mod run;

@@ -17,9 +17,13 @@ ghost use Rattle.sr_client.specs.Running.{faults};
 ghost use Rattle.sr_app.specs.Run.{Answered, AsksFor, DialsNothing, DrawsNothing, Ends, EndsAdding, EndsDialing, EndsServing, HasAnswered, IsEndedOtherwise, KeepsNothing, ReadsBounded, ReadsNothing, ServesNothing, TellsFaults, WritesOnce, WritesPartFor, add_environment, adding_line, auditing, code_of, dial_environment, dialing, doing, meaning_of, input_output, recording, replaying, soaking, usage_line};
 ghost use Rattle.sr_script.specs.Script.{refusal_line};
 
-use ha_audit::{MOST_TRACE, TraceError, audit, audit_alone, verdict_alone_line, verdict_line};
+use ha_audit::{
+    MOST_TRACE, TraceError, audit_alone, audit_trace, traces_are_told_once, verdict_alone_line,
+    verdict_line,
+};
 use hd_delivery::Side;
-use hd_trace::{Verdict, VerdictAlone};
+use hd_trace::{Verdict, VerdictAlone, verdict_alone_is_one};
+use he_wire::has_wire;
 use hf_split::empty_waits;
 use hk_keeper::{KeepError, Keeper};
 use hw_door::{Dialer, Door, Lots};
@@ -258,7 +262,7 @@ fn audit_both<K: Sink>(alloc: Global, text: &[u8], out: &mut K) -> Status
         Err(TraceError::Line(number)) => return refuse(alloc, number, out),
         Err(TraceError::NoMemory) => return Status::NoMemory,
     };
-    let Ok(verdict) = audit(alloc, &trace) else {
+    let Ok(verdict) = audit_trace(alloc, &trace) else {
         return Status::NoMemory;
     };
     match verdict_line(alloc, verdict) {
@@ -275,6 +279,9 @@ fn audit_one<K: Sink>(alloc: Global, side: Side, text: &[u8], out: &mut K) -> St
     ensures no_memory { result ≡ Status.NoMemory → out.new ≡ out.old }
     ensures read { result ≢ Status.ReadFault }
 {
+    traces_are_told_once();
+    verdict_alone_is_one();
+    has_wire();
     let trace = match ha_audit::parse_alone(alloc, text, side) {
         Ok(trace) => trace,
         Err(TraceError::Line(number)) => return refuse(alloc, number, out),
@@ -499,7 +506,7 @@ fn run_dialing<S: Source, K: Sink, C: Dialer, L: Lots>(
         (dial_environment (L.drawn lots.old) (K.holds out.old) (faults (C.faults dialer.old) (L.faults lots.old) (K.faults out.old)))
         (dial_environment (L.drawn lots.new) (K.holds out.new) (faults (C.faults dialer.new) (L.faults lots.new) (K.faults out.new))) }
 {
-    he_wire::has_wire();
+    has_wire();
     long_scripts_are_refused_by_their_front();
     match read_all(alloc, sr_client::MOST_SCRIPT, input) {
         Ok(text) => dial(alloc, asked, &text, out, dialer, lots),

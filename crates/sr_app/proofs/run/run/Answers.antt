@@ -83,7 +83,8 @@ returns-in-Ok-clause-dial_statuses g c = λ is.
 
 pub returns-in-Ok-clause-audit_status : goal.returns-in-Ok-clause-audit_status
 returns-in-Ok-clause-audit_status g c = λ is.
-    let wrote = ended_with _ c.carry_out.result BrokenOff _ _ c.carry_out.ensures.ends (same_status c.carry_out.result BrokenOff (sym c.code.ensures ∙ is)) tt in
+    let wrote = ended_with _ c.carry_out.result BrokenOff _ _ c.carry_out.ensures.ends
+    (same_status c.carry_out.result BrokenOff (sym c.code.ensures ∙ is)) tt in
     let auditor = auditor_of c.in-Ok.command _ _ _ wrote.1 in
     (auditor.0, subst (Asks c.args.words.now) auditor.1 c.in-Ok.ensures.ok.holds)
 

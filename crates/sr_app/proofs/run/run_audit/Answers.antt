@@ -8,7 +8,8 @@ pub returns-in-Ok-clause-ends : goal.returns-in-Ok-clause-ends
 returns-in-Ok-clause-ends g c =
     whole_answered 67108864 (auditing c.args.side) (auditing_is_of_text c.long_is_refused_by_its_front.ensures c.args.side)
     (g.S.Source.left c.args.input.now) (g.S.Source.left c.read_all.new.input) (g.K.Sink.holds c.args.out.now) (g.K.Sink.holds c.audit_text.new.out)
-    (g.S.Source.faults c.args.input.now) (g.S.Source.faults c.read_all.new.input) (g.K.Sink.faults c.args.out.now) (g.K.Sink.faults c.audit_text.new.out)
+    (g.S.Source.faults c.args.input.now) (g.S.Source.faults c.read_all.new.input) (g.K.Sink.faults c.args.out.now)
+    (g.K.Sink.faults c.audit_text.new.out)
     c.in-Ok.text.items c.audit_text.result (record {
       read = c.in-Ok.ensures.read;
       ended = c.in-Ok.ensures.ended;
