@@ -40,7 +40,8 @@ use sr_soak::soak;
 use sr_words::{Adding, Command, Dialing, Serving, WordsError};
 use std::alloc::{AllocError, Global};
 
-const USAGE: &[u8] = b"usage: sr replay, soak, serve, client, check, convert, user, record or audit\n";
+const USAGE: &[u8] =
+    b"usage: sr replay, soak, serve, client, check, convert, user, record or audit\n";
 
 /// What `user` writes of a user whom the keeper didn't have.
 const ADDED: &[u8] = b"added\n";
