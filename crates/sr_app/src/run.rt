@@ -18,7 +18,7 @@ ghost use Rattle.sr_app.specs.Run.{Answered, AsksFor, DialsNothing, DrawsNothing
 ghost use Rattle.sr_script.specs.Script.{refusal_line};
 
 use ha_audit::{
-    MOST_TRACE, TraceError, audit_alone, audit_trace, traces_are_told_once, verdict_alone_line,
+    MOST_TRACE, TraceError, audit, audit_alone, traces_are_told_once, verdict_alone_line,
     verdict_line,
 };
 use hd_delivery::Side;
@@ -263,7 +263,7 @@ fn audit_both<K: Sink>(alloc: Global, text: &[u8], out: &mut K) -> Status
         Err(TraceError::Line(number)) => return refuse(alloc, number, out),
         Err(TraceError::NoMemory) => return Status::NoMemory,
     };
-    let Ok(verdict) = audit_trace(alloc, &trace) else {
+    let Ok(verdict) = audit(alloc, &trace) else {
         return Status::NoMemory;
     };
     match verdict_line(alloc, verdict) {

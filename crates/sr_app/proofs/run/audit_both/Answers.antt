@@ -7,5 +7,5 @@ returns-in-Ok-verdict_line-clause-answered g c =
     judged None c.from.result c.write.result c.args.text.now c.as_bytes.result.now _ _ _ _ (record {
       trace = c.in-Ok.trace;
       parsed = c.in-Ok.ensures.ok;
-      comes = (c.in-Ok-audit_trace.verdict, c.in-Ok-audit_trace.ensures, c.from.ensures, c.as_bytes.ensures.value ∙ c.in-Ok-verdict_line.ensures);
+      comes = (c.in-Ok-audit.verdict, c.in-Ok-audit.ensures, c.from.ensures, c.as_bytes.ensures.value ∙ c.in-Ok-verdict_line.ensures);
     }) c.write.ensures.same c.write.ensures.whole c.write.ensures.part
