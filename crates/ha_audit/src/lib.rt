@@ -17,12 +17,14 @@
 //! ```
 //!
 //! `head.rt` reads the first line, `line.rt` any other, `reader.rt` goes over them, and `trace.rt` says whether a text is a trace. `verdict.rt` says
-//! what the lines come to, by `audit.rt`, which keeps numbers of both ends and judges one line more, with a file of `audit/` for each kind of line.
-//! What a line tells, and which lines are a session of two ends, is `hd_trace`'s.
+//! what the lines of two ends come to, by `auditor.rt`, which keeps numbers of both ends and judges one line more, with a file of `auditor/` for each
+//! kind of line; `alone.rt` and `alone/` do so for the lines of one end, whose bytes are read here, since nothing else tells what its frames were.
+//! `wording.rt` writes a verdict as a line. What a line tells, and which lines are a session, is `hd_trace`'s.
 //!
 //! Proved: a text is the trace of one head and one list of lines, and then [`parse`] gives it and a [`Reader`] its lines in order; or it is refused
 //! at the first line with which no trace goes on. The definitions are `specs/Grammar.antt`: the grammar is its printer. [`audit`] gives the one
-//! verdict that the lines have over the wire of this project (`specs/AuditVerdict.antt`).
+//! verdict that the lines have over the wire of this project (`specs/AuditVerdict.antt`), and [`audit_alone`] that on the lines of one end
+//! (`specs/AloneVerdict.antt`).
 //!
 //! The crate doesn't know files, nor the code of an end: what it judges by are the definitions alone.
 #![tactic(auto)]
