@@ -5,12 +5,16 @@ use Rattle.hd_delivery.specs.declared.vocabulary.Side.{Side}
 use Rattle.hd_delivery.specs.declared.vocabulary.Side.TheVariants.{Client, Server}
 use Rattle.hd_delivery.specs.Worlds.{codec_at, version_at}
 use Rattle.hd_delivery.specs.Bytes.{Wire}
+use Rattle.hd_facts.specs.Unique.{IsTheOne}
+use Rattle.he_wire.specs.Laws.{HasWire}
 use Rattle.he_wire.specs.Wires.{IsHouseWire}
 use Rattle.hd_trace.specs.declared.trace.Rule.{Rule}
 use Rattle.hd_trace.specs.declared.trace.TraceLine.{TraceLine}
 use Rattle.hd_trace.specs.Traces.{Setup, steps_of}
 use Rattle.hd_trace.specs.Alone.{TellHistory}
 use Rattle.hd_trace.specs.Breaking.{BreaksHistory, BreaksOffAlone}
+use Rattle.hd_trace.specs.Verdicts.{IsVerdictAlone, VerdictAloneIsOne}
+use Rattle.hd_trace.specs.declared.verdict.VerdictAlone.{VerdictAlone}
 use Rattle.ha_audit.specs.declared.alone.auditor.AuditAlone.{AuditAlone}
 use Rattle.ha_audit.specs.declared.verdict.Break.{Break}
 use Rattle.ha_audit.specs.declared.alone.ProgressAlone.{ProgressAlone}
@@ -18,7 +22,9 @@ use Rattle.ha_audit.specs.declared.head.Head.{Head}
 use Rattle.ha_audit.specs.Grammar.{IsHead, terms_of}
 use Rattle.ha_audit.specs.AuditKeeps.{IsBegunSo}
 use Rattle.ha_audit.specs.AloneKeeps.{KeepsAlone, JudgesAlone}
-use Rattle.ha_audit.specs.AloneVerdict.{StandsAloneOver, StandsAlone}
+use Rattle.ha_audit.specs.Laws.{TracesAreToldOnce}
+use Rattle.ha_audit.specs.Reading.{TraceText, HasLines}
+use Rattle.ha_audit.specs.AloneVerdict.{ComesToAlone, IsAuditedAlone, StandsAloneOver, StandsAlone}
 use Rattle.ha_audit.specs.AuditVerdict.{setup_of}
 
 -- a session is begun as the head says
@@ -116,3 +122,23 @@ module _ (head : Head) (side : Side) (lines : List TraceLine) (line : TraceLine)
           → StandsAlone head side (steps_of (line ∷ lines)) (record { audit = new; broken = Some (record { line = number; rule = rule }) })
       go None e stands = breaks_off head side lines line old.audit new number rule count judges stands
       go (Some broken) e stands = absurd (cc)
+
+-- ---- the one verdict
+
+one_audited : TracesAreToldOnce → VerdictAloneIsOne → HasWire → (side : Side) (trace : TraceText) (u v : VerdictAlone) → IsAuditedAlone side trace u
+    → IsAuditedAlone side trace v → u ≡ v
+one_audited once one wires side trace u v a b =
+    let same = (once trace.only trace.text trace.head trace.head a.lines b.lines a.told b.told).1 in
+    let wire = wires trace.head.limits.frame in
+    let x = setup_of trace.head wire.0 in
+    one x side (steps_of b.lines) u v (subst (λ (ls : List TraceLine). IsVerdictAlone x side (steps_of ls) u) same (a.comes_to wire.0 wire.1))
+    (b.comes_to wire.0 wire.1)
+
+-- a trace of one end comes to this verdict and to no other
+pub audited_alone : TracesAreToldOnce → VerdictAloneIsOne → HasWire → (side : Side) (trace : TraceText) (lines : List TraceLine) (v : VerdictAlone)
+    → HasLines trace lines → ComesToAlone trace.head side (steps_of lines) v → IsTheOne (IsAuditedAlone side trace) v
+audited_alone once one wires side trace lines v told comes =
+    let is : IsAuditedAlone side trace v = record { lines = lines; told = told; comes_to = comes } in record {
+      holds = is;
+      only = λ u a. one_audited once one wires side trace u v a is;
+    }

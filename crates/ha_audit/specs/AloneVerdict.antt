@@ -21,9 +21,11 @@ use Rattle.ha_audit.specs.AloneKeeps.{KeepsAlone}
 abbrev pub ComesToAlone : Head → Side → List ToldStep → VerdictAlone → Type 0
 ComesToAlone head side steps verdict = (wire : Wire) → IsHouseWire head.limits.frame wire → IsVerdictAlone (setup_of head wire) side steps verdict
 
--- the trace of this side comes to this
-abbrev pub IsAuditedAlone : Side → TraceText → VerdictAlone → Type 0
-IsAuditedAlone side trace verdict = (lines : List TraceLine) × (HasLines trace lines × ComesToAlone trace.head side (steps_of lines) verdict)
+-- these are the lines of the trace of this side, and they come to this
+pub record IsAuditedAlone (side : Side) (trace : TraceText) (verdict : VerdictAlone) : Type 0 where
+  pub lines : List TraceLine
+  pub told : HasLines trace lines
+  pub comes_to : ComesToAlone trace.head side (steps_of lines) verdict
 
 -- over such a wire the steps tell a history, which is kept, or they broke off there
 abbrev pub StandsAloneOver : Setup → Side → List ToldStep → AuditAlone → Option Break → Type 0

@@ -2,6 +2,7 @@
 //! read here, since nothing else tells what its frames were.
 
 ghost use Rattle.std.specs.Prelude.{◌≡◌, ◌∷◌, [], List, IfOk, OnOk, Some, suc, length};
+ghost use Rattle.hd_facts.specs.Unique.{IsTheOne};
 ghost use Rattle.hd_delivery.specs.declared.vocabulary.Side.{Side};
 ghost use Rattle.hd_trace.specs.declared.trace.TraceLine.{TraceLine};
 ghost use Rattle.hd_trace.specs.Traces.{steps_of};
@@ -16,12 +17,14 @@ mod links;
 mod taking;
 
 use crate::head::Head;
+use crate::laws::traces_are_told_once;
 use crate::reader::Reader;
 use crate::trace::Trace;
 use crate::verdict::Break;
 use auditor::AuditAlone;
 use hd_delivery::Side;
-use hd_trace::{TraceLine, VerdictAlone};
+use hd_trace::{TraceLine, VerdictAlone, verdict_alone_is_one};
+use he_wire::has_wire;
 use std::alloc::{AllocError, Global};
 
 /// How far an audit has come: what is kept of the lines so far, or where they broke off.
@@ -31,11 +34,14 @@ pub(crate) struct ProgressAlone {
     pub(crate) broken: Option<Break>,
 }
 
-/// What a trace of the lines of this end alone comes to.
+/// What a trace of the lines of this end alone comes to; it is the one such verdict.
 pub fn audit_alone(alloc: Global, side: Side, trace: &Trace) -> Result<VerdictAlone, AllocError>
     requires { trace.now.only ≡ Some side }
-    ensures { IfOk result (IsAuditedAlone side trace.now) }
+    ensures { IfOk result (IsTheOne (IsAuditedAlone side trace.now)) }
 {
+    traces_are_told_once();
+    verdict_alone_is_one();
+    has_wire();
     let mut progress = ProgressAlone::start(alloc, trace.head(), side)?;
     let mut reader = Reader::start(alloc, trace);
     while let Some(line) = reader.next(alloc, trace)? {

@@ -3,6 +3,7 @@
 //! ```text
 //! trace json 2 on 1024 100000 32768      the head: codec, version, whether links may change, what each end may hold
 //! c attach 0                             the client stands on link 0
+//! s attach 0                             and the server
 //! c lent 7b2270726f746f636f6c..           it said a frame of these bytes
 //! s fed 7b2270726f746f636f6c..           the server was fed these bytes
 //! s took shaken                          it dealt with a frame, which gave this
@@ -42,7 +43,6 @@ mod wording;
 mod worked;
 
 pub use alone::audit_alone;
-pub use auditor::Audit;
 pub use error::TraceError;
 pub use head::Head;
 pub use laws::{lines_are_lines, long_is_refused_by_its_front, traces_are_told_once};

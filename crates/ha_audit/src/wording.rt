@@ -46,11 +46,11 @@ fn world_line(
 ) -> Result<String, AllocError>
     ensures { IfOk result (λ line. string_bytes line ≡ world_line client server still) }
 {
-    let (asked, answered) = (client.sent, client.processed);
-    let (sent, processed) = (server.sent, server.processed);
+    let (client_sent, client_processed) = (client.sent, client.processed);
+    let (server_sent, server_processed) = (server.sent, server.processed);
     let end = still_words(still);
     format!(in alloc;
-        "world client sent {asked} processed {answered} server sent {sent} processed {processed}{end}\n"
+        "world client sent {client_sent} processed {client_processed} server sent {server_sent} processed {server_processed}{end}\n"
     )
 }
 

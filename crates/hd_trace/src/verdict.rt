@@ -16,7 +16,7 @@ pub enum Verdict {
     World {
         client: Counts,
         server: Counts,
-        /// Whether nothing is left to say, to read or to process.
+        /// Whether both stand on one link, Ready, and nothing is left to say, to read or to process.
         still: bool,
     },
     /// The line of this number, where the trace's first one is 1, tells what can't come next, by this rule.

@@ -1,21 +1,15 @@
 -- How an audit ends.
-use Rattle.std.proofs.Common.{◌≡◌, ◌∙◌, ◌<◌, ◌≤◌, ℕ, ◌⊎◌, inl, inr, List, [], ◌++◌, length, take, Option, Some, None, refl, sym, subst}
+use Rattle.std.proofs.Common.{◌≡◌, ◌∙◌, ◌<◌, ◌≤◌, ℕ, ◌⊎◌, inl, inr, List, [], ◌++◌, length, take, Option, Some, None, refl, sym, subst, arith, length-append}
 use Rattle.std.specs.Io.KnownBytes.{Appends}
 use Rattle.hd_delivery.specs.declared.vocabulary.Side.{Side}
 use Rattle.hd_facts.specs.Counts.{one_more}
-use Rattle.hd_facts.specs.Unique.{IsTheOne}
-use Rattle.hd_trace.specs.declared.trace.TraceLine.{TraceLine}
-use Rattle.hd_trace.specs.Traces.{steps_of}
-use Rattle.hd_trace.specs.Verdicts.{VerdictAloneIsOne}
 use Rattle.hd_trace.specs.declared.verdict.Verdict.{Verdict}
 use Rattle.hd_trace.specs.declared.verdict.Verdict.TheVariants as both
 use Rattle.hd_trace.specs.declared.verdict.VerdictAlone.{VerdictAlone}
 use Rattle.hd_trace.specs.declared.verdict.VerdictAlone.TheVariants as alone
-use Rattle.he_wire.specs.Laws.{HasWire}
-use Rattle.ha_audit.specs.AloneVerdict.{ComesToAlone, IsAuditedAlone}
-use Rattle.ha_audit.specs.AuditVerdict.{setup_of}
-use Rattle.ha_audit.specs.Laws.{LongIsRefusedByItsFront, TracesAreToldOnce}
-use Rattle.ha_audit.specs.Reading.{IsRefusedAt, TraceText}
+use Rattle.ha_audit.specs.Laws.{LongIsRefusedByItsFront}
+use Rattle.ha_audit.specs.Reading.{RefusesText, TraceText}
+use Rattle.ha_audit.specs.declared.error.TraceError.TheVariants as trace_error
 use Rattle.sr_script.specs.Script.{refusal_line}
 use Rattle.sr_app.specs.declared.run.Status.{Status}
 use Rattle.sr_app.specs.declared.run.Status.TheVariants.{Done, Usage, Refused, ReadFault, WriteFault, DoorFault, KeeperFault, NoMemory, ConnectionRefused, LotsFault, TurnsDone, BrokenOff}
@@ -46,32 +40,17 @@ line_has (Some side) trace status line comes is = verdict_alone_has comes.0 (sub
 pub not_of_a_verdict : (side : Option Side) (status : Status) → IsOfNoVerdict status → (text line : List ℕ) → IsJudged side status text line → ⊥
 not_of_a_verdict side status is text line judged = line_has side judged.trace status line judged.comes is
 
--- ---- the verdict on one end's lines
-
-same_verdict : VerdictAloneIsOne → HasWire → (side : Side) (trace : TraceText) (u v : VerdictAlone) (lines : List TraceLine)
-    → ComesToAlone trace.head side (steps_of lines) u → ComesToAlone trace.head side (steps_of lines) v → u ≡ v
-same_verdict one has side trace u v lines x y =
-    let wire = has trace.head.limits.frame in
-    one (setup_of trace.head wire.0) side (steps_of lines) u v (x wire.0 wire.1) (y wire.0 wire.1)
-
--- a trace of this side comes to one verdict
-pub alone_is_the_one : TracesAreToldOnce → VerdictAloneIsOne → HasWire → (side : Side) (trace : TraceText) (verdict : VerdictAlone)
-    → IsAuditedAlone side trace verdict → IsTheOne (IsAuditedAlone side trace) verdict
-alone_is_the_one once one has side trace verdict is = record {
-  holds = is;
-  only = λ other found.
-      let same : found.0 ≡ is.0 = (once trace.only trace.text trace.head trace.head found.0 is.0 found.1.0 is.1.0).1 in
-      same_verdict one has side trace other verdict is.0
-      (subst (λ (lines : List TraceLine). ComesToAlone trace.head side (steps_of lines) other) same found.1.1) is.1.1;
-}
-
 -- ---- it is a command that reads its text whole
 
 judged_is_short : (side : Option Side) (status : Status) → IsOfShort 67108864 (IsJudged side status)
 judged_is_short side status text answer is = subst (λ (xs : List ℕ). length xs ≤ 67108864) is.parsed.text_is is.parsed.told.short
 
 refusal_stays : LongIsRefusedByItsFront → (side : Option Side) → StaysOfLong 67108864 (IsNoTrace side)
-refusal_stays law side front more answer long is = record { number = is.number; first = law side front more is.number long is.first; line = is.line }
+refusal_stays law side front more answer long is = record {
+  number = is.number;
+  refuses = (law side front more is.number long is.refuses.0, λ head lines told. absurd (let short = told.short in omega (arith, long, short, length-append front more)));
+  line = is.line;
+}
 
 answer_stays : LongIsRefusedByItsFront → (side : Option Side) → StaysOfLong 67108864 (IsAuditAnswer side)
 answer_stays law side front more answer long (inl is) =
@@ -143,11 +122,11 @@ audited_nothing side text before now faults faults' same = record {
 }
 
 refused_whole : (side : Option Side) (text : List ℕ) (before now : Option (List ℕ)) (faults faults' number : ℕ)
-    → IsTheOne (IsRefusedAt side text) number → Appends before now (refusal_line number) → HasAnswered (auditing side) text Refused before now faults faults'
+    → RefusesText side (trace_error.Line number) text → Appends before now (refusal_line number) → HasAnswered (auditing side) text Refused before now faults faults'
 refused_whole side text before now faults faults' number first whole = record {
   done = λ other. cc;
   usage = λ other. cc;
-  refused = λ refused. (refusal_line number, record { number = number; first = first; line = refl }, whole);
+  refused = λ refused. (refusal_line number, record { number = number; refuses = first; line = refl }, whole);
   read_fault = λ other. cc;
   write_fault = λ other. cc;
   no_memory = λ other. cc;
@@ -156,7 +135,7 @@ refused_whole side text before now faults faults' number first whole = record {
 
 -- the text was refused
 pub refused_to_audit : (side : Option Side) (text : List ℕ) (result : Status) (before now : Option (List ℕ)) (faults faults' number : ℕ)
-    → IsTheOne (IsRefusedAt side text) number → (result ≡ Refused) ⊎ (result ≡ WriteFault) ⊎ (result ≡ NoMemory)
+    → RefusesText side (trace_error.Line number) text → (result ≡ Refused) ⊎ (result ≡ WriteFault) ⊎ (result ≡ NoMemory)
     → (result ≡ Refused → Appends before now (refusal_line number))
     → (result ≡ WriteFault → (faults' ≡ one_more faults) × ((n : ℕ) × Appends before now (take n (refusal_line number))))
     → (result ≡ NoMemory → now ≡ before)
@@ -168,7 +147,7 @@ refused_to_audit side text result before now faults faults' number first (inr (i
     let p = part is in
     subst (λ status. HasAnswered (auditing side) text status before now faults faults') (sym is)
     (audited_part side text (refusal_line number) before now faults faults'
-    (inr (record { number = number; first = first; line = refl })) p.0 p.1.0 p.1.1)
+    (inr (record { number = number; refuses = first; line = refl })) p.0 p.1.0 p.1.1)
 refused_to_audit side text result before now faults faults' number first (inr (inr is)) whole part none =
     subst (λ status. HasAnswered (auditing side) text status before now faults faults') (sym is)
     (audited_nothing side text before now faults faults' (none is))

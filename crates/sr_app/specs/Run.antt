@@ -7,6 +7,7 @@ use Rattle.ha_audit.specs.AuditVerdict.{IsAudited}
 use Rattle.ha_audit.specs.Grammar.{most_trace}
 use Rattle.ha_audit.specs.Reading.{TraceText}
 use Rattle.ha_audit.specs.Reading as audit
+use Rattle.ha_audit.specs.declared.error.TraceError.TheVariants as trace_error
 use Rattle.ha_audit.specs.VerdictLines.{verdict_alone_line, verdict_line}
 use Rattle.hd_delivery.specs.declared.vocabulary.Side.{Side}
 use Rattle.hd_facts.specs.Counts.{one_more}
@@ -221,7 +222,7 @@ pub record IsJudged (side : Option Side) (status : Status) (text line : List ℕ
 -- the text is none, and this is its refusal
 pub record IsNoTrace (side : Option Side) (text answer : List ℕ) : Type 0 where
   pub number : ℕ
-  pub first : IsTheOne (audit.IsRefusedAt side text) number
+  pub refuses : audit.RefusesText side (trace_error.Line number) text
   pub line : answer ≡ refusal_line number
 
 -- the answer to a text, whether it is a trace or not

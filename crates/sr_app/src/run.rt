@@ -17,12 +17,9 @@ ghost use Rattle.sr_client.specs.Running.{faults};
 ghost use Rattle.sr_app.specs.Run.{Answered, AsksFor, DialsNothing, DrawsNothing, Ends, EndsAdding, EndsDialing, EndsServing, HasAnswered, IsEndedOtherwise, KeepsNothing, ReadsBounded, ReadsNothing, ServesNothing, TellsFaults, WritesOnce, WritesPartFor, add_environment, adding_line, auditing, code_of, dial_environment, dialing, doing, meaning_of, input_output, recording, replaying, soaking, usage_line};
 ghost use Rattle.sr_script.specs.Script.{refusal_line};
 
-use ha_audit::{
-    MOST_TRACE, TraceError, audit, audit_alone, traces_are_told_once, verdict_alone_line,
-    verdict_line,
-};
+use ha_audit::{MOST_TRACE, TraceError, audit, audit_alone, verdict_alone_line, verdict_line};
 use hd_delivery::Side;
-use hd_trace::{Verdict, VerdictAlone, verdict_alone_is_one};
+use hd_trace::{Verdict, VerdictAlone};
 use he_wire::has_wire;
 use hf_split::empty_waits;
 use hk_keeper::{KeepError, Keeper};
@@ -280,9 +277,6 @@ fn audit_one<K: Sink>(alloc: Global, side: Side, text: &[u8], out: &mut K) -> St
     ensures no_memory { result ≡ Status.NoMemory → out.new ≡ out.old }
     ensures read { result ≢ Status.ReadFault }
 {
-    traces_are_told_once();
-    verdict_alone_is_one();
-    has_wire();
     let trace = match ha_audit::parse_alone(alloc, text, side) {
         Ok(trace) => trace,
         Err(TraceError::Line(number)) => return refuse(alloc, number, out),
@@ -611,7 +605,7 @@ fn carry_out<S: Source, K: Sink, D: Door, C: Dialer, R: Keeper, L: Lots>(
 /// |---|---|
 /// | 0 | the input, if the command asks for one, is what it asks for; its whole answer was written. `serve`: all of its turns were done |
 /// | | `client`: its script is at its end, no call is live, and its end is closed |
-/// | | `user`: the keeper has a user with this token, who was added or known before |
+/// | | `user`: the keeper has a user with this token, who was added or known before; `audit`: the trace doesn't break off |
 /// | 1 | the words are no command; the usage line was written |
 /// | 2 | the input is refused; what is written of the frames before, and the refusal, was written |
 /// | 3 | the input failed; nothing was written but what is written of the frames that were read |

@@ -3,6 +3,7 @@ use Rattle.hd_trace.specs.declared.trace.TraceLine.{TraceLine}
 use Rattle.ha_audit.specs.AloneVerdict.{StandsAlone}
 use Rattle.ha_audit.specs.Grammar.{IsHead}
 use Rattle.ha_audit.specs.Reading.{HasRead, HasLines}
+use Rattle.ha_audit.proofs.AloneVerdicts.{audited_alone}
 use Rattle.ha_audit.proofs.alone.audit_alone.Goals as goal
 
 pub loop-reader-init : goal.loop-reader-init
@@ -41,10 +42,6 @@ returns c =
     let lines = c.loop-reader.invariant.0 in
     let ends = subst
     (λ o. IfNone o
-    ((lines : List TraceLine) → HasRead c.loop-reader.reader trace lines → HasLines trace lines)) c.in_default.is c.in_ok-line.ensures.end in (
-      lines,
-      (
-        ends lines c.loop-reader.invariant.1.0,
-        c.verdict.ensures trace.head c.args.side lines (c.loop-reader.invariant.1.1 c.args.side c.requires),
-      ),
-    )
+    ((lines : List TraceLine) → HasRead c.loop-reader.reader trace lines → HasLines trace lines)) c.in_default.is c.in_ok-line.ensures.end in
+    audited_alone c.traces_are_told_once.ensures c.verdict_alone_is_one.ensures c.has_wire.ensures c.args.side trace lines c.verdict.result
+    (ends lines c.loop-reader.invariant.1.0) (c.verdict.ensures trace.head c.args.side lines (c.loop-reader.invariant.1.1 c.args.side c.requires))
