@@ -4,7 +4,7 @@ no test.
 
     bench/audit.py [--rounds N] [--messages N] [PROGRAM]
 
-The trace is what `PROGRAM record` writes of a session in which one end sends 106,000 messages of 100 bytes, which is nearly the longest trace
+The trace is what `PROGRAM record` writes of a session in which one end sends 105,000 messages of 100 bytes, which is nearly the longest trace
 that there may be (64 MiB); and that of a tenth of it, so that it is seen whether time grows with the length alone. Told are seconds of processor
 time, by how much ours is over the loop's, the most memory beside the trace's size, and what the audit says. PROGRAM is
 crates/sr_app/out/sr_app by default, as `rt run` builds it."""
@@ -36,7 +36,7 @@ def script(messages):
 def main():
     words = argparse.ArgumentParser(description=__doc__, formatter_class=argparse.RawDescriptionHelpFormatter)
     words.add_argument("--rounds", type=int, default=3)
-    words.add_argument("--messages", type=int, default=106_000)
+    words.add_argument("--messages", type=int, default=105_000)
     words.add_argument("program", nargs="?", default=str(TOP / "crates" / "sr_app" / "out" / "sr_app"))
     asked = words.parse_args()
     ours, loop = [asked.program, "audit"], [sys.executable, "-c", LOOP]
